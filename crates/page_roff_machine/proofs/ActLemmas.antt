@@ -36,7 +36,7 @@ use Rattle.page_roff_effects.specs.declared.commands.ProductKind.TheVariants as 
 use Rattle.page_roff_effects.specs.machine.Acting.{IfCalled, IsCallable, IfRepeated, IsRepeatable, acting_effects, measured}
 use Rattle.page_roff_effects.specs.machine.Effects.{effects}
 use Rattle.page_roff_effects.specs.laws.Views.{State}
-use Rattle.page_roff_effects.specs.States.{says}
+use Rattle.page_roff_effects.specs.States.{Given, says}
 use Rattle.page_roff_stack.specs.declared.next.Next.{Next}
 use Rattle.page_roff_stack.specs.declared.next.Next.TheVariants.{Part, Line, RegionLine, Turn, SourceEnd, Nothing}
 use Rattle.page_roff_stack.specs.machine.Changes.{is_page, next_line, first_line_parts, first_region, region_of, past}
@@ -45,11 +45,12 @@ use Rattle.page_roff_stack.specs.machine.Stacks as stacks
 use Rattle.page_roff_stack.specs.machine.Stacks.{Stack, running, with_top, has_begun, turn_in, turn_or_end, next_around, next_in, next_of, part_in, is_part, is_line, is_turn, may_end, is_nothing, end_of, turn_if, step_in, step_of}
 use Rattle.page_roff_stack.proofs.StackLemmas.{next_steps}
 use Rattle.page_roff_machine.specs.declared.budgeted_actions.BudgetedActions.{BudgetedActions}
+use Rattle.page_roff_machine.specs.declared.acts.Act.{Act}
 use Rattle.page_roff_machine.specs.declared.acts.Act.TheVariants as acts
 use Rattle.page_roff_machine.specs.declared.acts.Progress.TheVariants.{More}
 use Rattle.page_roff_machine.specs.declared.runners.Runner.{Runner}
 use Rattle.page_roff_machine.specs.machine.Doing.{HasRoom, output_of, state_in, state_after, answer_with, line_after, IsIn, IsAt, Makes, Does, Answers, parts_of, begun_in, answer_if, answer_after, answer_in, region_after, region_in, opens_if, opens_after, opened_in, collected_in, closes_after, passed_in, turned_in, leaf_if, leaf_after, leaf_in, line_of, done_as, read_kept_in, ended_kept_in, finished_in}
-use Rattle.page_roff_machine.specs.machine.Moving.{refused, moved, reached_with, CanBegin, passes_block, line_in, Collects, Decides}
+use Rattle.page_roff_machine.specs.machine.Moving.{refused, moved, reached_with, CanBegin, passes_block, line_in, Collects, Suits, Decides}
 use Rattle.page_roff_machine.specs.machine.Stepping.{IsSound, Steps}
 use Rattle.page_roff_machine.proofs.DoingLemmas.{came_none, stays, both, kind_after}
 use Rattle.page_roff_machine.proofs.FrameLemmas.{same_source}
@@ -226,23 +227,16 @@ end_around : (turning : Option Turning) (region : Option Opened) (under : List F
 end_around turning region [] = refl
 end_around turning region (f ∷ fs) = end_or_turn (turn_in turning) region (has_begun turning)
 
-no_line : (turning : Option Turning) (region : Option Opened) (under : List Frame) (line : List ℕ) → Line line ≡ next_around turning region under → ⊥
-no_line turning region under line e = let k : is_around (Line line) ≡ true = ap is_around e ∙ end_around turning region under in cc
-
-no_region_line : (turning : Option Turning) (region : Option Opened) (under : List Frame) (o : Opened) (line : List ℕ) (is_last : Bool)
-    → RegionLine o line is_last ≡ next_around turning region under → ⊥
-no_region_line turning region under o line is_last e = let k : is_around (RegionLine o line is_last) ≡ true = ap is_around e ∙ end_around turning region under in cc
-
-no_part : (turning : Option Turning) (region : Option Opened) (under : List Frame) (part : LinePart (List ℕ)) → Part part ≡ next_around turning region under → ⊥
-no_part turning region under part e = let k : is_around (Part part) ≡ true = ap is_around e ∙ end_around turning region under in cc
+not_around : (turning : Option Turning) (region : Option Opened) (under : List Frame) (x : Next (List ℕ) Opened) → is_around x ≡ false → x ≡ next_around turning region under → ⊥
+not_around turning region under x none e = let k : is_around x ≡ true = ap is_around e ∙ end_around turning region under in cc
 
 part_first : (turning : Option Turning) (region : Option Opened) (parts : List (LinePart (List ℕ))) (lines : List (List ℕ)) (under : List Frame) (part : LinePart (List ℕ)) (is_run : Bool)
     → Part part ≡ next_in turning region parts lines under → first_region is_run parts ≡ region_of is_run part
 part_first turning None (first ∷ more) lines under part is_run e = let k : first ≡ part = cc in ap (region_of is_run) k
 part_first turning None [] (first ∷ more) under part is_run e = absurd (cc)
-part_first turning None [] [] under part is_run e = absurd (no_part turning None under part e)
+part_first turning None [] [] under part is_run e = absurd (not_around turning None under (Part part) refl e)
 part_first turning (Some o) parts (first ∷ more) under part is_run e = absurd (cc)
-part_first turning (Some o) parts [] under part is_run e = absurd (no_part turning (Some o) under part e)
+part_first turning (Some o) parts [] under part is_run e = absurd (not_around turning (Some o) under (Part part) refl e)
 
 -- the region of the head that comes next
 region_there : (s : Stack) (part : LinePart (List ℕ)) (is_run : Bool) → Part part ≡ next_of s → first_region is_run s.top.parts ≡ region_of is_run part
@@ -252,9 +246,9 @@ line_first : (turning : Option Turning) (region : Option Opened) (parts : List (
     → Line line ≡ next_in turning region parts lines under → (first_line_parts lines ≡ line_parts line) × (region ≡ None) × (0 < length lines)
 line_first turning None (part ∷ more) lines under line e = absurd (cc)
 line_first turning None [] (first ∷ more) under line e = let k : first ≡ line = cc in (ap line_parts k, refl, omega arith)
-line_first turning None [] [] under line e = absurd (no_line turning None under line e)
+line_first turning None [] [] under line e = absurd (not_around turning None under (Line line) refl e)
 line_first turning (Some o) parts (first ∷ more) under line e = absurd (cc)
-line_first turning (Some o) parts [] under line e = absurd (no_line turning (Some o) under line e)
+line_first turning (Some o) parts [] under line e = absurd (not_around turning (Some o) under (Line line) refl e)
 
 pub line_there : (s : Stack) (line : List ℕ) → Line line ≡ next_of s → 0 < length s.top.lines
 line_there s line e = (line_first s.top.turning s.top.region s.top.parts s.top.lines s.under line e).2
@@ -263,9 +257,9 @@ region_first : (turning : Option Turning) (region : Option Opened) (parts : List
     → RegionLine o line is_last ≡ next_in turning region parts lines under → (region ≡ Some o) × (0 < length lines)
 region_first turning None (part ∷ more) lines under o line is_last e = absurd (cc)
 region_first turning None [] (first ∷ more) under o line is_last e = absurd (cc)
-region_first turning None [] [] under o line is_last e = absurd (no_region_line turning None under o line is_last e)
+region_first turning None [] [] under o line is_last e = absurd (not_around turning None under (RegionLine o line is_last) refl e)
 region_first turning (Some p) parts (first ∷ more) under o line is_last e = let k : p ≡ o = cc in (ap (λ o. Some o) k, omega arith)
-region_first turning (Some p) parts [] under o line is_last e = absurd (no_region_line turning (Some p) under o line is_last e)
+region_first turning (Some p) parts [] under o line is_last e = absurd (not_around turning (Some p) under (RegionLine o line is_last) refl e)
 
 pub region_line_there : (s : Stack) (o : Opened) (line : List ℕ) (is_last : Bool) → RegionLine o line is_last ≡ next_of s → 0 < length s.top.lines
 region_line_there s o line is_last e = (region_first s.top.turning s.top.region s.top.parts s.top.lines s.under o line is_last e).1
@@ -322,7 +316,25 @@ unfolding finish_if finish_at
 finish_same b true region f s = refl
 finish_same b false region f s = refl
 
+decided : {P S A : Type 0} {left : P → S → List Message → Type 0} {old : Runner} {new : BudgetedActions} {out out_new : S} {suits : Kind → Type 0}
+    {does : Kind → Budgeted State → A} {to : BudgetedActions → List Given → A} (result : Act) (a : Makes left old.doing out suits does new to out_new)
+    → next (language (acting_effects (output_of old.doing))) (running old.stack (state_in [] old.doing)) ≡ moved (output_of old.doing) result old.stack (map says a.notes) new
+    → Suits result old.stack new → Decides left old out result (record { stack = old.stack; doing = new }) out_new
+decided result a step suits = record { stack = refl; setting = a.setting; notes = a.notes; came = a.came; step = step; suits = suits }
+
 module _ {P S : Type 0} (left : P → S → List Message → Type 0) (old : Runner) (new : BudgetedActions) (out out_new : S) where
+  abbrev pub output : Output
+  output = output_of old.doing
+
+  abbrev pub s : Stack
+  s = old.stack
+
+  abbrev pub d : ℕ
+  d = depth old.stack.under
+
+  abbrev pub state : Budgeted State
+  state = state_in [] old.doing
+
   pub decides_leaf : (text : List ℕ) (r : Reached) (may_call : Bool) (result : ProductKind)
       → Part (Leaf text) ≡ next_of old.stack → r ≡ reached old.stack.top.cursor → may_call ≡ is_some (depth old.stack.under)
       → IsIn old.stack.top.kind old.doing
@@ -331,27 +343,17 @@ module _ {P S : Type 0} (left : P → S → List Message → Type 0) (old : Runn
       → Decides left old out (acts.Leaf result) (record { stack = old.stack; doing = new }) out_new
   unfolding moved step_in part_next met at_part p meaning meet_as leaf_next language meaning_at meaning_by m
   decides_leaf text r may_call result e er em k a callable =
-      let output = output_of old.doing in
       let l = language (acting_effects output) in
-      let s = old.stack in
-      let d = depth s.under in
       let f = past (after_part s.top.cursor.levels) s.top in
-      let state = state_in [] old.doing in
       let q = meet_as (meaning_at l d s.top.kind) (reached s.top.cursor) state in
-      record {
-        stack = refl;
-        setting = a.setting;
-        notes = a.notes;
-        came = a.came;
-        step =
-            step_next output s (Part (Leaf text)) state e
-            ∙ ap (λ next. Some next) (leaf_same l may_call q.0 text f s.under q.1 (sym em))
-            ∙ ap (λ (q : Bool × Budgeted State). Some (leaf_next l may_call f s.under (leaf_after l may_call s.top.kind text q)))
-            (met_same output d s.top.kind (reached s.top.cursor) state ∙ ap (λ r. meet_as (meaning (acting_effects output) s.top.kind) r state) (sym er))
-            ∙ ap (λ done. Some (leaf_next l may_call f s.under done)) (a.state s.top.kind k [])
-            ∙ ap (λ may_call. Some (leaf_next l may_call f s.under (done_as result new (map says a.notes)))) em;
-        suits = can_call result may_call s new em callable;
-      }
+      decided _ a
+      (step_next output s (Part (Leaf text)) state e
+      ∙ ap (λ next. Some next) (leaf_same l may_call q.0 text f s.under q.1 (sym em))
+      ∙ ap (λ (q : Bool × Budgeted State). Some (leaf_next l may_call f s.under (leaf_after l may_call s.top.kind text q)))
+      (met_same output d s.top.kind (reached s.top.cursor) state ∙ ap (λ r. meet_as (meaning (acting_effects output) s.top.kind) r state) (sym er))
+      ∙ ap (λ done. Some (leaf_next l may_call f s.under done)) (a.state s.top.kind k [])
+      ∙ ap (λ may_call. Some (leaf_next l may_call f s.under (done_as result new (map says a.notes)))) em)
+      (can_call result may_call s new em callable)
 
   pub decides_loop : (head : LoopHead (List ℕ)) (r : Reached) (may_run : Bool) (result : ProductKind)
       → Part (Loop head) ≡ next_of old.stack → r ≡ reached old.stack.top.cursor → may_run ≡ is_some (depth old.stack.under)
@@ -361,27 +363,17 @@ module _ {P S : Type 0} (left : P → S → List Message → Type 0) (old : Runn
       → Decides left old out (acts.Leaf result) (record { stack = old.stack; doing = new }) out_new
   unfolding moved step_in part_next met at_part p meaning meet_as language meaning_at meaning_by m
   decides_loop head r may_run result e er em k a repeatable =
-      let output = output_of old.doing in
       let l = language (acting_effects output) in
-      let s = old.stack in
-      let d = depth s.under in
       let f = past (after_part s.top.cursor.levels) s.top in
-      let state = state_in [] old.doing in
       let q = meet_as (meaning_at l d s.top.kind) (reached s.top.cursor) state in
-      record {
-        stack = refl;
-        setting = a.setting;
-        notes = a.notes;
-        came = a.came;
-        step =
-            step_next output s (Part (Loop head)) state e
-            ∙ ap (λ next. Some next) (loop_same_if output d s.top.kind may_run q.0 head f s.under q.1 (sym em))
-            ∙ ap (λ (q : Bool × Budgeted State). Some (leaf_next l may_run f s.under (closes_after l may_run (opens_after (parts_of old.doing s.top.kind) head q))))
-            (met_same output d s.top.kind (reached s.top.cursor) state ∙ ap (λ r. meet_as (meaning (acting_effects output) s.top.kind) r state) (sym er))
-            ∙ ap (λ done. Some (leaf_next l may_run f s.under done)) (a.state s.top.kind k [])
-            ∙ ap (λ may_run. Some (leaf_next l may_run f s.under (done_as result new (map says a.notes)))) em;
-        suits = can_repeat result may_run s new em repeatable;
-      }
+      decided _ a
+      (step_next output s (Part (Loop head)) state e
+      ∙ ap (λ next. Some next) (loop_same_if output d s.top.kind may_run q.0 head f s.under q.1 (sym em))
+      ∙ ap (λ (q : Bool × Budgeted State). Some (leaf_next l may_run f s.under (closes_after l may_run (opens_after (parts_of old.doing s.top.kind) head q))))
+      (met_same output d s.top.kind (reached s.top.cursor) state ∙ ap (λ r. meet_as (meaning (acting_effects output) s.top.kind) r state) (sym er))
+      ∙ ap (λ done. Some (leaf_next l may_run f s.under done)) (a.state s.top.kind k [])
+      ∙ ap (λ may_run. Some (leaf_next l may_run f s.under (done_as result new (map says a.notes)))) em)
+      (can_repeat result may_run s new em repeatable)
 
   pub decides_guard : (h : Head (List ℕ)) (r : Reached) (bit : Bool) (result : Option Bool)
       → Part (Guard h) ≡ next_of old.stack → r ≡ reached old.stack.top.cursor → bit ≡ old.stack.top.cursor.levels.bit
@@ -390,26 +382,16 @@ module _ {P S : Type 0} (left : P → S → List Message → Type 0) (old : Runn
       → Decides left old out (acts.Move (moves.Part (passes.Guard (answered h.branch bit result)))) (record { stack = old.stack; doing = new }) out_new
   unfolding moved step_in part_next p meet_as at_part meaning_at meaning_by m
   decides_guard h r bit result e er eb k a =
-      let output = output_of old.doing in
-      let s = old.stack in
-      let d = depth s.under in
-      let state = state_in [] old.doing in
       let to : BlockCursor × Budgeted State → Option (Running (Budgeted State)) = λ t. Some (running (with_top (past t.0 s.top) s) t.1) in
-      record {
-        stack = refl;
-        setting = a.setting;
-        notes = a.notes;
-        came = a.came;
-        step =
-            step_next output s (Part (Guard h)) state e
-            ∙ ap to (guard_same output d s.top.kind h s.top.cursor state)
-            ∙ ap (λ (a : Option Bool × Budgeted State). to (passed (passes.Guard (answered h.branch s.top.cursor.levels.bit a.0)) s.top.cursor, a.1))
-            (ap (λ r. answer_in old.doing h.branch s.top.cursor.levels.bit r s.top.kind state) (sym er)
-            ∙ ap (λ bit. answer_in old.doing h.branch bit r s.top.kind state) (sym eb)
-            ∙ a.state s.top.kind k [])
-            ∙ ap (λ bit. to (passed (passes.Guard (answered h.branch bit result)) s.top.cursor, state_in (map says a.notes) new)) (sym eb);
-        suits = (tt, tt);
-      }
+      decided _ a
+      (step_next output s (Part (Guard h)) state e
+      ∙ ap to (guard_same output d s.top.kind h s.top.cursor state)
+      ∙ ap (λ (a : Option Bool × Budgeted State). to (passed (passes.Guard (answered h.branch s.top.cursor.levels.bit a.0)) s.top.cursor, a.1))
+      (ap (λ r. answer_in old.doing h.branch s.top.cursor.levels.bit r s.top.kind state) (sym er)
+      ∙ ap (λ bit. answer_in old.doing h.branch bit r s.top.kind state) (sym eb)
+      ∙ a.state s.top.kind k [])
+      ∙ ap (λ bit. to (passed (passes.Guard (answered h.branch bit result)) s.top.cursor, state_in (map says a.notes) new)) (sym eb))
+      (tt, tt)
 
   pub decides_block : (h : Head (List ℕ)) (r : Reached) (bit : Bool) (result : Option Bool)
       → Part (Block (openings.Conditional h)) ≡ next_of old.stack → r ≡ reached old.stack.top.cursor → bit ≡ old.stack.top.cursor.levels.bit
@@ -418,26 +400,16 @@ module _ {P S : Type 0} (left : P → S → List Message → Type 0) (old : Runn
       → Decides left old out (acts.Block (answered h.branch bit result) h.column) (record { stack = old.stack; doing = new }) out_new
   unfolding moved step_in part_next p meet_as at_part meaning_at meaning_by m
   decides_block h r bit result e er eb k a =
-      let output = output_of old.doing in
-      let s = old.stack in
-      let d = depth s.under in
-      let state = state_in [] old.doing in
       let to : BlockCursor × Budgeted State → Option (Running (Budgeted State)) = λ t. Some (running (with_top (past t.0 s.top) s) t.1) in
-      record {
-        stack = refl;
-        setting = a.setting;
-        notes = a.notes;
-        came = a.came;
-        step =
-            step_next output s (Part (Block (openings.Conditional h))) state e
-            ∙ ap to (block_same output d s.top.kind h s.top.cursor state)
-            ∙ ap (λ (a : Option Bool × Budgeted State). let answer = answered h.branch s.top.cursor.levels.bit a.0 in to (passed (passes.Block answer) s.top.cursor, refused output answer h.column s.top.cursor a.1))
-            (ap (λ r. answer_in old.doing h.branch s.top.cursor.levels.bit r s.top.kind state) (sym er)
-            ∙ ap (λ bit. answer_in old.doing h.branch bit r s.top.kind state) (sym eb)
-            ∙ a.state s.top.kind k [])
-            ∙ ap (λ bit. let answer = answered h.branch bit result in to (passed (passes.Block answer) s.top.cursor, refused output answer h.column s.top.cursor (state_in (map says a.notes) new))) (sym eb);
-        suits = ap is_part (sym e);
-      }
+      decided _ a
+      (step_next output s (Part (Block (openings.Conditional h))) state e
+      ∙ ap to (block_same output d s.top.kind h s.top.cursor state)
+      ∙ ap (λ (a : Option Bool × Budgeted State). let answer = answered h.branch s.top.cursor.levels.bit a.0 in to (passed (passes.Block answer) s.top.cursor, refused output answer h.column s.top.cursor a.1))
+      (ap (λ r. answer_in old.doing h.branch s.top.cursor.levels.bit r s.top.kind state) (sym er)
+      ∙ ap (λ bit. answer_in old.doing h.branch bit r s.top.kind state) (sym eb)
+      ∙ a.state s.top.kind k [])
+      ∙ ap (λ bit. let answer = answered h.branch bit result in to (passed (passes.Block answer) s.top.cursor, refused output answer h.column s.top.cursor (state_in (map says a.notes) new))) (sym eb))
+      (ap is_part (sym e))
 
   pub decides_open_loop : (head : LoopHead (List ℕ)) (r : Reached) (result : Bool)
       → Part (Block (openings.Loop head)) ≡ next_of old.stack → r ≡ reached old.stack.top.cursor
@@ -446,23 +418,13 @@ module _ {P S : Type 0} (left : P → S → List Message → Type 0) (old : Runn
       → Decides left old out (acts.Move (moves.Part (passes.Loop result))) (record { stack = old.stack; doing = new }) out_new
   unfolding moved step_in part_next p meet_as at_part meaning_at meaning_by m
   decides_open_loop head r result e er k a =
-      let output = output_of old.doing in
-      let s = old.stack in
-      let d = depth s.under in
-      let state = state_in [] old.doing in
       let to : BlockCursor × Budgeted State → Option (Running (Budgeted State)) = λ t. Some (running (with_top (past t.0 s.top) s) t.1) in
-      record {
-        stack = refl;
-        setting = a.setting;
-        notes = a.notes;
-        came = a.came;
-        step =
-            step_next output s (Part (Block (openings.Loop head))) state e
-            ∙ ap to (opening_same output d s.top.kind head s.top.cursor state)
-            ∙ ap (λ (q : Bool × Budgeted State). to (passed (passes.Loop q.0) s.top.cursor, q.1))
-            (ap (λ r. opened_in old.doing head r s.top.kind state) (sym er) ∙ a.state s.top.kind k []);
-        suits = (ap is_part (sym e), tt);
-      }
+      decided _ a
+      (step_next output s (Part (Block (openings.Loop head))) state e
+      ∙ ap to (opening_same output d s.top.kind head s.top.cursor state)
+      ∙ ap (λ (q : Bool × Budgeted State). to (passed (passes.Loop q.0) s.top.cursor, q.1))
+      (ap (λ r. opened_in old.doing head r s.top.kind state) (sym er) ∙ a.state s.top.kind k []))
+      (ap is_part (sym e), tt)
 
   pub decides_region : (head : RegionHead (List ℕ)) (r : Reached) (result : Bool)
       → Part (Region head) ≡ next_of old.stack → r ≡ reached old.stack.top.cursor
@@ -471,31 +433,16 @@ module _ {P S : Type 0} (left : P → S → List Message → Type 0) (old : Runn
       → Decides left old out (acts.Move (moves.Region result)) (record { stack = old.stack; doing = new }) out_new
   unfolding moved step_in part_next step_region met meaning_at meaning_by language p meet_as at_line between opened m
   decides_region head r result e er k a =
-      let output = output_of old.doing in
-      let s = old.stack in
-      let d = depth s.under in
-      let state = state_in [] old.doing in
       let frame : Option Opened → Frame =
       λ region. record { kind = s.top.kind; region = region; parts = []; cursor = at_line s.top.cursor.levels; lines = s.top.lines; turning = s.top.turning } in
       let to : Bool × Budgeted State → Option (Running (Budgeted State)) = λ t. Some (running (with_top (frame (Some (opened head t.0))) s) t.1) in
-      record {
-        stack = refl;
-        setting = a.setting;
-        notes = a.notes;
-        came = a.came;
-        step =
-            step_next output s (Part (Region head)) state e
-            ∙ ap (λ (q : Bool × Budgeted State). to (region_after (parts_of old.doing s.top.kind) head q))
-            (met_same output d s.top.kind (reached s.top.cursor) state ∙ ap (λ r. meet_as (parts_of old.doing s.top.kind) r state) (sym er))
-            ∙ ap to (a.state s.top.kind k [])
-            ∙ ap (λ region. Some (running (with_top (frame region) s) (state_in (map says a.notes) new))) (sym (region_there s (Region head) result e));
-        suits = (
-          ap is_part (sym e),
-          λ h.
-              sym (ap (λ (q : Bool × Budgeted State). q.0) (a.state s.top.kind k []))
-              ∙ ap (λ r. (meet_as (parts_of old.doing s.top.kind) r state).0) (er ∙ reached_in_loop s.top.cursor h),
-        );
-      }
+      decided _ a
+      (step_next output s (Part (Region head)) state e
+      ∙ ap (λ (q : Bool × Budgeted State). to (region_after (parts_of old.doing s.top.kind) head q))
+      (met_same output d s.top.kind (reached s.top.cursor) state ∙ ap (λ r. meet_as (parts_of old.doing s.top.kind) r state) (sym er))
+      ∙ ap to (a.state s.top.kind k [])
+      ∙ ap (λ region. Some (running (with_top (frame region) s) (state_in (map says a.notes) new))) (sym (region_there s (Region head) result e)))
+      (ap is_part (sym e), λ h. sym (ap (λ (q : Bool × Budgeted State). q.0) (a.state s.top.kind k [])) ∙ ap (λ r. (meet_as (parts_of old.doing s.top.kind) r state).0) (er ∙ reached_in_loop s.top.cursor h))
 
   pub decides_region_line : (o : Opened) (line : List ℕ) (is_page_now in_loop : Bool) (result : ProductKind)
       → RegionLine o line false ≡ next_of old.stack → is_page_now ≡ is_page old.stack.top.kind → in_loop ≡ old.stack.top.cursor.levels.in_loop
@@ -504,28 +451,18 @@ module _ {P S : Type 0} (left : P → S → List Message → Type 0) (old : Runn
       → Decides left old out (acts.RegionLine result) (record { stack = old.stack; doing = new }) out_new
   unfolding moved step_in region_next between m p meaning_at meaning_by language
   decides_region_line o line is_page_now in_loop result e ep el k a =
-      let output = output_of old.doing in
-      let s = old.stack in
-      let d = depth s.under in
-      let state = state_in [] old.doing in
       let to : Option Opened → Budgeted State → Option (Running (Budgeted State)) =
       λ region state.
       Some (running (with_top (record { kind = s.top.kind; region = region; parts = []; cursor = at_line s.top.cursor.levels; lines = drop 1 s.top.lines; turning = s.top.turning }) s) state) in
-      record {
-        stack = refl;
-        setting = a.setting;
-        notes = a.notes;
-        came = a.came;
-        step =
-            step_next output s (RegionLine o line false) state e
-            ∙ ap (to (Some o))
-            (keep_same output d s.top.kind s.top.cursor.levels.in_loop line ((parts_of old.doing s.top.kind).reads o line state)
-            ∙ ap (λ in_loop. read_kept_in old.doing in_loop o line s.top.kind state) (sym el)
-            ∙ a.state s.top.kind (record { page = sym ep; setting = k }) [])
-            ∙ ap (λ region. to region (state_in (map says a.notes ++ line_of result new.actions) new))
-            (sym (region_first s.top.turning s.top.region s.top.parts s.top.lines s.under o line false e).0);
-        suits = tt;
-      }
+      decided _ a
+      (step_next output s (RegionLine o line false) state e
+      ∙ ap (to (Some o))
+      (keep_same output d s.top.kind s.top.cursor.levels.in_loop line ((parts_of old.doing s.top.kind).reads o line state)
+      ∙ ap (λ in_loop. read_kept_in old.doing in_loop o line s.top.kind state) (sym el)
+      ∙ a.state s.top.kind (record { page = sym ep; setting = k }) [])
+      ∙ ap (λ region. to region (state_in (map says a.notes ++ line_of result new.actions) new))
+      (sym (region_first s.top.turning s.top.region s.top.parts s.top.lines s.under o line false e).0))
+      tt
 
   pub decides_region_end : (o : Opened) (line : List ℕ) (is_page_now in_loop : Bool)
       → RegionLine o line true ≡ next_of old.stack → is_page_now ≡ is_page old.stack.top.kind → in_loop ≡ old.stack.top.cursor.levels.in_loop
@@ -534,25 +471,15 @@ module _ {P S : Type 0} (left : P → S → List Message → Type 0) (old : Runn
       → Decides left old out (acts.Move moves.RegionEnd) (record { stack = old.stack; doing = new }) out_new
   unfolding moved step_in region_next between m p meaning_at meaning_by language meaning end_line effects
   decides_region_end o line is_page_now in_loop e ep el k a =
-      let output = output_of old.doing in
-      let s = old.stack in
-      let d = depth s.under in
-      let state = state_in [] old.doing in
       let to : Budgeted State → Option (Running (Budgeted State)) =
       λ state. Some (running (with_top (record { kind = s.top.kind; region = None; parts = []; cursor = at_line s.top.cursor.levels; lines = drop 1 s.top.lines; turning = s.top.turning }) s) state) in
-      record {
-        stack = refl;
-        setting = a.setting;
-        notes = a.notes;
-        came = a.came;
-        step =
-            step_next output s (RegionLine o line true) state e
-            ∙ ap to
-            (keep_same output d s.top.kind s.top.cursor.levels.in_loop line ((parts_of old.doing s.top.kind).ends_region o line state)
-            ∙ ap (λ in_loop. ended_kept_in old.doing in_loop o line s.top.kind state) (sym el)
-            ∙ a.state s.top.kind (record { page = sym ep; setting = k }) []);
-        suits = (tt, tt);
-      }
+      decided _ a
+      (step_next output s (RegionLine o line true) state e
+      ∙ ap to
+      (keep_same output d s.top.kind s.top.cursor.levels.in_loop line ((parts_of old.doing s.top.kind).ends_region o line state)
+      ∙ ap (λ in_loop. ended_kept_in old.doing in_loop o line s.top.kind state) (sym el)
+      ∙ a.state s.top.kind (record { page = sym ep; setting = k }) []))
+      (tt, tt)
 
   pub decides_source_end : (region : Option Opened) (begun in_loop : Bool)
       → SourceEnd region begun ≡ next_of old.stack → in_loop ≡ old.stack.top.cursor.levels.in_loop
@@ -561,22 +488,13 @@ module _ {P S : Type 0} (left : P → S → List Message → Type 0) (old : Runn
       → Decides left old out acts.SourceEnd (record { stack = old.stack; doing = new }) out_new
   unfolding moved step_in
   decides_source_end region begun in_loop e el k a =
-      let output = output_of old.doing in
-      let s = old.stack in
-      let state = state_in [] old.doing in
-      record {
-        stack = refl;
-        setting = a.setting;
-        notes = a.notes;
-        came = a.came;
-        step =
-            step_next output s (SourceEnd region begun) state e
-            ∙ ap (λ state. stacks.left s.under state)
-            (finish_same old.doing begun region s.top state
-            ∙ ap (λ in_loop. finished_in old.doing begun region in_loop s.top.kind state) (sym el)
-            ∙ a.state s.top.kind k []);
-        suits = ap may_end (sym e);
-      }
+      decided _ a
+      (step_next output s (SourceEnd region begun) state e
+      ∙ ap (λ state. stacks.left s.under state)
+      (finish_same old.doing begun region s.top state
+      ∙ ap (λ in_loop. finished_in old.doing begun region in_loop s.top.kind state) (sym el)
+      ∙ a.state s.top.kind k []))
+      (ap may_end (sym e))
 
 -- ---- turns of loops
 
@@ -620,14 +538,9 @@ module _ {P S : Type 0} (left : P → S → List Message → Type 0) (old : Runn
   unfolding moved
   decides_turn region begun in_loop condition e el sound f t =
       let a = turns_after region begun in_loop condition true f t in
-      record {
-        stack = refl;
-        setting = a.setting;
-        notes = a.notes;
-        came = a.came;
-        step = turn_step region begun in_loop condition true e el sound.setting a;
-        suits = (ap is_turn (sym e), sound.frames.0.turning);
-      }
+      decided _ a
+      (turn_step region begun in_loop condition true e el sound.setting a)
+      (ap is_turn (sym e), sound.frames.0.turning)
 
   pub decides_last_turn : (region : Option Opened) (begun in_loop : Bool) (condition : List ℕ)
       → Turn region begun condition ≡ next_of old.stack → in_loop ≡ old.stack.top.cursor.levels.in_loop
@@ -638,14 +551,9 @@ module _ {P S : Type 0} (left : P → S → List Message → Type 0) (old : Runn
   unfolding moved
   decides_last_turn region begun in_loop condition e el sound f t =
       let a = turns_after region begun in_loop condition false f t in
-      record {
-        stack = refl;
-        setting = a.setting;
-        notes = a.notes;
-        came = a.came;
-        step = turn_step region begun in_loop condition false e el sound.setting a;
-        suits = ap may_end (sym e);
-      }
+      decided _ a
+      (turn_step region begun in_loop condition false e el sound.setting a)
+      (ap may_end (sym e))
 
 -- ---- a line begins
 
@@ -669,19 +577,19 @@ module _ {P S : Type 0} (left : P → S → List Message → Type 0) (old : Runn
       → Does left old.doing out (collected_in old.doing open_blocks line) doing out_new
       → Collects left old out (record { stack = old.stack; doing = doing }) out_new
   unfolding collect_if
-  collects_here doing out out_new line open_blocks e eb el d =
+  collects_here doing out out_new line open_blocks e eb el a =
       let l = old.stack.top.cursor.levels in
       record {
         stack = refl;
         does = record {
-          setting = d.setting;
-          notes = d.notes;
-          came = d.came;
+          setting = a.setting;
+          notes = a.notes;
+          came = a.came;
           state = λ kind k given.
               ap (λ in_loop. collect_if (parts_of old.doing kind) in_loop l.skipped (line_in (next_of old.stack)) (state_in given old.doing)) e
               ∙ ap (λ line. collected_in old.doing l.skipped line kind (state_in given old.doing)) (sym (ap line_in el))
               ∙ ap (λ open_blocks. collected_in old.doing open_blocks line kind (state_in given old.doing)) (sym eb)
-              ∙ d.state kind k given;
+              ∙ a.state kind k given;
         };
       }
 
@@ -745,19 +653,8 @@ module _ {P S : Type 0} (left : P → S → List Message → Type 0) (old collec
 
 -- a block that comes and is passed over
 passed_block : (r : Reached) (x : Next (List ℕ) Opened) → passes_block r x ≡ true → (r ≡ PassedOver) × ((h : Opening (List ℕ)) × (Part (Block h) ≡ x))
-passed_block First x e = absurd (cc)
-passed_block Remainder x e = absurd (cc)
-passed_block PassedOver (Part (Leaf text)) e = absurd (cc)
-passed_block PassedOver (Part (Guard head)) e = absurd (cc)
 passed_block PassedOver (Part (Block h)) e = (refl, (h, refl))
-passed_block PassedOver (Part (Loop head)) e = absurd (cc)
-passed_block PassedOver (Part End) e = absurd (cc)
-passed_block PassedOver (Part (Region head)) e = absurd (cc)
-passed_block PassedOver (Line line) e = absurd (cc)
-passed_block PassedOver (RegionLine o line is_last) e = absurd (cc)
-passed_block PassedOver (Turn region begun condition) e = absurd (cc)
-passed_block PassedOver (SourceEnd region begun) e = absurd (cc)
-passed_block PassedOver Nothing e = absurd (cc)
+passed_block _ _ e = absurd (cc)
 
 module _ {P S : Type 0} (left : P → S → List Message → Type 0) (old : Runner) (out : S) where
   pub decides_passed : (r : Reached) → r ≡ reached old.stack.top.cursor → passes_block r (next_of old.stack) ≡ true → Decides left old out (acts.Move (moves.Part (passes.Block None))) old out

@@ -77,6 +77,17 @@ module _ {P S : Type 0} (left : P → S → List Message → Type 0) where
         ∙ ap (to new) (said given a.notes b.notes);
   }
 
+-- another state, of the same call
+made : {P S A C : Type 0} {left : P → S → List Message → Type 0} {old new : BudgetedActions} {out out_new : S} {suits others : Kind → Type 0} {f : Kind → Budgeted State → A}
+    {g : Kind → Budgeted State → C} {to : BudgetedActions → List Given → A} {also : BudgetedActions → List Given → C} (a : Makes left old out suits f new to out_new)
+    → ((kind : Kind) → others kind → (given : List Given) → g kind (state_in given old) ≡ also new (given ++ map says a.notes)) → Makes left old out others g new also out_new
+made a state = record { setting = a.setting; notes = a.notes; came = a.came; state = state }
+
+does_so : {P S A : Type 0} {left : P → S → List Message → Type 0} {old new : BudgetedActions} {out out_new : S} {suits : Kind → Type 0} {f : Kind → Budgeted State → A}
+    {to : BudgetedActions → List Given → A} {o : PartOutcome} (d : acting.Does left old.actions out o new.actions out_new)
+    → ((kind : Kind) → suits kind → (given : List Given) → f kind (state_in given old) ≡ to new (given ++ map says o.notes)) → Makes left old out suits f new to out_new
+does_so {o = o} d state = record { setting = d.setting; notes = o.notes; came = d.came; state = state }
+
 -- ---- the budget
 
 charged_beyond : (e : Effects State) (gave_up : Bool) (left : ℕ) (b : Budget) (s : State)
@@ -155,14 +166,9 @@ module _ {P S : Type 0} (left : P → S → List Message → Type 0) where
       → acting.Does left old.actions out (budget_outcome old.actions.memory) new.actions out_new
       → Does left old out (charged_in old) new out_new
   unfolding charge effects budget_outcome
-  charge_beyond old new out out_new h eb d = record {
-    setting = d.setting;
-    notes = (budget_outcome old.actions.memory).notes;
-    came = d.came;
-    state = λ kind k given.
-        charged_beyond (acting_effects (output_of old)) old.budget.gave_up old.budget.left old.budget (record { memory = old.actions.memory; out = given }) h
-        ∙ acted (charged old.budget) old.actions.memory new given (budget_outcome old.actions.memory) eb d.memory refl;
-  }
+  charge_beyond old new out out_new h eb d = does_so d (λ kind k given.
+      charged_beyond (acting_effects (output_of old)) old.budget.gave_up old.budget.left old.budget (record { memory = old.actions.memory; out = given }) h
+      ∙ acted (charged old.budget) old.actions.memory new given (budget_outcome old.actions.memory) eb d.memory refl)
 
   pub charge_within : (old new : BudgetedActions) (out : S)
       → exhausts old.budget ≡ false → new.budget ≡ charged old.budget → new.actions ≡ old.actions
@@ -203,13 +209,8 @@ module _ {P S : Type 0} (left : P → S → List Message → Type 0) where
   pub begin_body : (old new : BudgetedActions) (out out_new : S)
       → Does left old out (charged_in old) new out_new
       → Makes left old out (IsAt false old) (begun_in old) new state_after out_new
-  begin_body old new out out_new d = record {
-    setting = d.setting;
-    notes = d.notes;
-    came = d.came;
-    state = λ kind k given.
-        begun_body (acting_effects (output_of old)) kind (state_in given old) k.page ∙ d.state kind k.setting given;
-  }
+  begin_body old new out out_new d = made d (λ kind k given.
+      begun_body (acting_effects (output_of old)) kind (state_in given old) k.page ∙ d.state kind k.setting given)
 
   -- ---- whether a part is run
 
@@ -225,12 +226,7 @@ module _ {P S : Type 0} (left : P → S → List Message → Type 0) where
       → Does left old out (charged_in old) new out_new
       → Answers left old out (met_in old Remainder) (not new.budget.gave_up) new out_new
   unfolding meet_as meaning meet whether_run
-  meet_remainder old new out out_new d = record {
-    setting = d.setting;
-    notes = d.notes;
-    came = d.came;
-    state = λ kind k given. ap (λ (s : Budgeted State). (not s.gave_up, s)) (d.state kind k given);
-  }
+  meet_remainder old new out out_new d = made d (λ kind k given. ap (λ (s : Budgeted State). (not s.gave_up, s)) (d.state kind k given))
 
 -- nothing comes of a line of a region that is not run
 pub passed_nothing : (setting : TextSetting) (o : Opened) (is_run : Bool) (line : List ℕ) (m : Memory) → is_run ≡ false
@@ -270,15 +266,10 @@ module _ {P S : Type 0} (left : P → S → List Message → Type 0) where
   unfolding test effects with_rest
   tests_as old new out out_new condition result eb t =
       let a = answer_of (measured old.actions.setting) condition old.actions.memory in
-      record {
-        setting = t.does.setting;
-        notes = a.notes;
-        came = t.does.came;
-        state = λ kind k given.
-            ap (λ (setting : ActingSetting).
-            answered old.budget (tested_after (record { memory = old.actions.memory; out = given }) (answer_of (measured setting) condition old.actions.memory))) (sym k)
-            ∙ tested_as old.budget old.actions.memory new given a result eb t.does.memory t.holds;
-      }
+      does_so t.does (λ kind k given.
+      ap (λ (setting : ActingSetting).
+      answered old.budget (tested_after (record { memory = old.actions.memory; out = given }) (answer_of (measured setting) condition old.actions.memory))) (sym k)
+      ∙ tested_as old.budget old.actions.memory new given a result eb t.does.memory t.holds)
 
   pub value_if : (old new : BudgetedActions) (out out_new : S) (condition : Condition (List ℕ)) (bit result : Bool)
       → new.budget ≡ old.budget
@@ -311,12 +302,7 @@ module _ {P S : Type 0} (left : P → S → List Message → Type 0) where
       (met_in old reached) (λ kind q. answer_after (parts_of old kind) branch bit q)
       (λ kind s. let v = value_in mid branch bit kind s in (Some v.0, v.1))
       (answer_with true) (answer_with (Some result)) a
-      (record {
-        setting = b.setting;
-        notes = b.notes;
-        came = b.came;
-        state = λ kind k given. ap (λ (v : Bool × Budgeted State). (Some v.0, v.1)) (b.state kind k given);
-      })
+      (made b (λ kind k given. ap (λ (v : Bool × Budgeted State). (Some v.0, v.1)) (b.state kind k given)))
       (kind_after old mid a.setting)
       (λ kind k given.
       ap (λ (output : Output). let v = value (meaning (acting_effects output) kind) branch bit (state_in given mid) in (Some v.0, v.1))
@@ -325,12 +311,7 @@ module _ {P S : Type 0} (left : P → S → List Message → Type 0) where
   pub answer_passed : (old new : BudgetedActions) (out out_new : S) (reached : Reached) (branch : Branch (List ℕ)) (bit : Bool)
       → Answers left old out (met_in old reached) false new out_new
       → Answers left old out (answer_in old branch bit reached) None new out_new
-  answer_passed old new out out_new reached branch bit a = record {
-    setting = a.setting;
-    notes = a.notes;
-    came = a.came;
-    state = λ kind k given. ap (answer_after (parts_of old kind) branch bit) (a.state kind k given);
-  }
+  answer_passed old new out out_new reached branch bit a = made a (λ kind k given. ap (answer_after (parts_of old kind) branch bit) (a.state kind k given))
 
   -- ---- regions
 
@@ -345,12 +326,7 @@ module _ {P S : Type 0} (left : P → S → List Message → Type 0) where
       (met_in old reached) (λ kind q. region_after (parts_of old kind) head q)
       (λ kind s. region_after (parts_of mid kind) head (result, s))
       (answer_with result) (answer_with result) a
-      (record {
-        setting = d.setting;
-        notes = (head_outcome head result mid.actions.memory).notes;
-        came = d.came;
-        state = λ kind k given. ap (λ (s : Budgeted State). (result, s)) (acted mid.budget mid.actions.memory new given (head_outcome head result mid.actions.memory) eb d.memory (head_plain head result mid.actions.memory));
-      })
+      (does_so d (λ kind k given. ap (λ (s : Budgeted State). (result, s)) (acted mid.budget mid.actions.memory new given (head_outcome head result mid.actions.memory) eb d.memory (head_plain head result mid.actions.memory))))
       (kind_after old mid a.setting)
       (λ kind k given. refl)
 
@@ -380,15 +356,10 @@ module _ {P S : Type 0} (left : P → S → List Message → Type 0) where
       (λ kind t. with_rest (acting_effects (output_of old)) t ((acting_effects (output_of old)).reads kind o (o.is_run && not t.gave_up) line t.rest))
       (λ kind t. with_rest (acting_effects (output_of mid)) t ((acting_effects (output_of mid)).reads kind o (o.is_run && not t.gave_up) line t.rest))
       state_after (line_after result) a
-      (record {
-        setting = g.does.setting;
-        notes = outcome.notes;
-        came = g.does.came;
-        state = λ kind k given.
-            ap (λ (setting : ActingSetting). budgeted mid.budget (after (record { memory = mid.actions.memory; out = given })
-            (line_outcome (measured setting) o (o.is_run && not mid.budget.gave_up) line mid.actions.memory))) (sym k.setting)
-            ∙ line_acted mid.budget mid.actions.memory new given outcome result eb g.does.memory g.kind g.lends;
-      })
+      (does_so g.does (λ kind k given.
+      ap (λ (setting : ActingSetting). budgeted mid.budget (after (record { memory = mid.actions.memory; out = given })
+      (line_outcome (measured setting) o (o.is_run && not mid.budget.gave_up) line mid.actions.memory))) (sym k.setting)
+      ∙ line_acted mid.budget mid.actions.memory new given outcome result eb g.does.memory g.kind g.lends))
       (run_after old mid a.setting is_page_now)
       (λ kind k given.
       ap (λ (output : Output). budgeted mid.budget (after (record { memory = mid.actions.memory; out = given })
@@ -408,12 +379,7 @@ module _ {P S : Type 0} (left : P → S → List Message → Type 0) where
       (λ kind t. with_rest (acting_effects (output_of old)) t ((acting_effects (output_of old)).ends_region kind o (o.is_run && not t.gave_up) [] t.rest))
       (λ kind t. with_rest (acting_effects (output_of mid)) t ((acting_effects (output_of mid)).ends_region kind o (o.is_run && not t.gave_up) [] t.rest))
       state_after state_after a
-      (record {
-        setting = d.setting;
-        notes = outcome.notes;
-        came = d.came;
-        state = λ kind k given. acted mid.budget mid.actions.memory new given outcome eb d.memory (end_plain o (o.is_run && not mid.budget.gave_up) mid.actions.memory);
-      })
+      (does_so d (λ kind k given. acted mid.budget mid.actions.memory new given outcome eb d.memory (end_plain o (o.is_run && not mid.budget.gave_up) mid.actions.memory)))
       (run_after old mid a.setting is_page_now)
       (λ kind k given. refl)
 
@@ -433,23 +399,13 @@ module _ {P S : Type 0} (left : P → S → List Message → Type 0) where
   -- nothing comes of a line
   no_line : (old new : BudgetedActions) (out out_new : S) (suits : Kind → Type 0) (f : Kind → Budgeted State → Budgeted State) (product : ProductKind) → product ≡ kinds.Nothing
       → Makes left old out suits f new (line_after product) out_new → Makes left old out suits f new state_after out_new
-  no_line old new out out_new suits f product e m = record {
-    setting = m.setting;
-    notes = m.notes;
-    came = m.came;
-    state = λ kind k given.
-        m.state kind k given ∙ ap (λ product. line_after product new (given ++ map says m.notes)) e
-        ∙ ap (λ given. state_in given new) (append-nil (given ++ map says m.notes));
-  }
+  no_line old new out out_new suits f product e m = made m (λ kind k given.
+      m.state kind k given ∙ ap (λ product. line_after product new (given ++ map says m.notes)) e
+      ∙ ap (λ given. state_in given new) (append-nil (given ++ map says m.notes)))
 
   as_line : (old new : BudgetedActions) (out out_new : S) (suits : Kind → Type 0) (f : Kind → Budgeted State → Budgeted State)
       → Makes left old out suits f new state_after out_new → Makes left old out suits f new (line_after kinds.Nothing) out_new
-  as_line old new out out_new suits f m = record {
-    setting = m.setting;
-    notes = m.notes;
-    came = m.came;
-    state = λ kind k given. m.state kind k given ∙ ap (λ given. state_in given new) (sym (append-nil (given ++ map says m.notes)));
-  }
+  as_line old new out out_new suits f m = made m (λ kind k given. m.state kind k given ∙ ap (λ given. state_in given new) (sym (append-nil (given ++ map says m.notes))))
 
   pub read_kept : (old mid new : BudgetedActions) (out out_mid out_new : S) (is_page_now : Bool) (o : Opened) (line : List ℕ) (product : ProductKind) → product ≡ kinds.Nothing
       → Makes left old out (IsAt is_page_now old) (read_in old o line) mid (line_after product) out_mid
@@ -487,12 +443,7 @@ module _ {P S : Type 0} (left : P → S → List Message → Type 0) where
   unfolding language effects with_rest
   finished old new out out_new region in_loop eb d =
       let outcome = finish_outcome region in_loop old.budget.gave_up old.actions.memory in
-      record {
-        setting = d.setting;
-        notes = outcome.notes;
-        came = d.came;
-        state = λ kind k given. acted old.budget old.actions.memory new given outcome eb d.memory (finish_plain region in_loop old.budget.gave_up old.actions.memory);
-      }
+      does_so d (λ kind k given. acted old.budget old.actions.memory new given outcome eb d.memory (finish_plain region in_loop old.budget.gave_up old.actions.memory))
 
   pub not_begun : (old : BudgetedActions) (out : S) (region : Option Opened) (in_loop : Bool) → Does left old out (finished_in old false region in_loop) old out
   not_begun old out region in_loop = stays left old out (λ kind. IsIn kind old) (finished_in old false region in_loop) state_after (λ kind k given. refl)
@@ -511,24 +462,14 @@ module _ {P S : Type 0} (left : P → S → List Message → Type 0) where
       (met_in old reached) (λ kind q. opens_after (parts_of old kind) head q)
       (λ kind s. opens_after (parts_of mid kind) head (true, s))
       (answer_with true) (answer_with true) a
-      (record {
-        setting = d.setting;
-        notes = outcome.notes;
-        came = d.came;
-        state = λ kind k given. ap (λ (s : Budgeted State). (true, s)) (acted mid.budget mid.actions.memory new given outcome eb d.memory (loop_plain head mid.actions.memory));
-      })
+      (does_so d (λ kind k given. ap (λ (s : Budgeted State). (true, s)) (acted mid.budget mid.actions.memory new given outcome eb d.memory (loop_plain head mid.actions.memory))))
       (kind_after old mid a.setting)
       (λ kind k given. refl)
 
   pub loop_passed : (old new : BudgetedActions) (out out_new : S) (reached : Reached) (head : LoopHead (List ℕ))
       → Answers left old out (met_in old reached) false new out_new
       → Answers left old out (opened_in old head reached) false new out_new
-  loop_passed old new out out_new reached head a = record {
-    setting = a.setting;
-    notes = a.notes;
-    came = a.came;
-    state = λ kind k given. ap (opens_after (parts_of old kind) head) (a.state kind k given);
-  }
+  loop_passed old new out out_new reached head a = made a (λ kind k given. ap (opens_after (parts_of old kind) head) (a.state kind k given))
 
   -- what comes of a loop that is whole
   loop_done : (e : Effects State) (b : Budget) (s : State) (m : Memory) (new : BudgetedActions) (given : List Given) (notes : List Message) (p : Product) (result : ProductKind) (repeated : Type 0)
@@ -553,14 +494,9 @@ module _ {P S : Type 0} (left : P → S → List Message → Type 0) where
   unfolding language effects done_after
   loop_closed old new out out_new may_run result repeated eb g h =
       let outcome = close_outcome (not old.budget.gave_up) may_run old.actions.memory in
-      record {
-        setting = g.does.setting;
-        notes = outcome.notes;
-        came = g.does.came;
-        state = λ kind k given.
-            loop_done (acting_effects (output_of old)) old.budget (record { memory = old.actions.memory; out = given }) outcome.memory new given outcome.notes outcome.product result repeated
-            eb g.does.memory g.kind h g.lends;
-      }
+      does_so g.does (λ kind k given.
+      loop_done (acting_effects (output_of old)) old.budget (record { memory = old.actions.memory; out = given }) outcome.memory new given outcome.notes outcome.product result repeated
+      eb g.does.memory g.kind h g.lends)
 
   pub loop_whole : (old mid new : BudgetedActions) (out out_mid out_new : S) (reached : Reached) (may_run : Bool) (head : LoopHead (List ℕ)) (result : ProductKind)
       → Answers left old out (opened_in old head reached) true mid out_mid
@@ -578,12 +514,7 @@ module _ {P S : Type 0} (left : P → S → List Message → Type 0) where
   pub loop_not_met : (old new : BudgetedActions) (out out_new : S) (reached : Reached) (may_run : Bool) (head : LoopHead (List ℕ))
       → Answers left old out (opened_in old head reached) false new out_new
       → Makes left old out (λ kind. IsIn kind old) (passed_in old may_run head reached) new (done_as kinds.Nothing) out_new
-  loop_not_met old new out out_new reached may_run head a = record {
-    setting = a.setting;
-    notes = a.notes;
-    came = a.came;
-    state = λ kind k given. ap (closes_after (language (acting_effects (output_of old))) may_run) (a.state kind k given);
-  }
+  loop_not_met old new out out_new reached may_run head a = made a (λ kind k given. ap (closes_after (language (acting_effects (output_of old))) may_run) (a.state kind k given))
 
   -- what is collected
   pub keeps : (old new : BudgetedActions) (out out_new : S) (text : List ℕ)
@@ -593,24 +524,14 @@ module _ {P S : Type 0} (left : P → S → List Message → Type 0) where
   unfolding meaning collect_some effects with_rest
   keeps old new out out_new text eb d =
       let outcome = collect_outcome (not old.budget.gave_up) text old.actions.memory in
-      record {
-        setting = d.setting;
-        notes = outcome.notes;
-        came = d.came;
-        state = λ kind k given. acted old.budget old.actions.memory new given outcome eb d.memory (collect_plain (not old.budget.gave_up) text old.actions.memory);
-      }
+      does_so d (λ kind k given. acted old.budget old.actions.memory new given outcome eb d.memory (collect_plain (not old.budget.gave_up) text old.actions.memory))
 
   pub collects_some : (old new : BudgetedActions) (out out_new : S) (open_blocks : ℕ) (line text : List ℕ)
       → Some text ≡ loop_text open_blocks line
       → Does left old out (kept_in old text) new out_new
       → Does left old out (collected_in old open_blocks line) new out_new
   unfolding meaning
-  collects_some old new out out_new open_blocks line text e d = record {
-    setting = d.setting;
-    notes = d.notes;
-    came = d.came;
-    state = λ kind k given. ap (λ text. collect_some (acting_effects (output_of old)) text (state_in given old)) (sym e) ∙ d.state kind k given;
-  }
+  collects_some old new out out_new open_blocks line text e d = made d (λ kind k given. ap (λ text. collect_some (acting_effects (output_of old)) text (state_in given old)) (sym e) ∙ d.state kind k given)
 
   pub collects_none : (old : BudgetedActions) (out : S) (open_blocks : ℕ) (line : List ℕ)
       → None ≡ loop_text open_blocks line
@@ -628,16 +549,11 @@ module _ {P S : Type 0} (left : P → S → List Message → Type 0) where
   unfolding turn_by effects with_rest
   turn_tests mid new out_mid out_new condition result h eb t =
       let a = turn_answer (measured mid.actions.setting) condition mid.actions.memory in
-      record {
-        setting = t.does.setting;
-        notes = a.notes;
-        came = t.does.came;
-        state = λ kind k given.
-            ap (λ gave_up. turn_by (acting_effects (output_of mid)) gave_up kind condition (state_in given mid)) h
-            ∙ ap (λ (setting : ActingSetting).
-            answered mid.budget (tested_after (record { memory = mid.actions.memory; out = given }) (turn_answer (measured setting) condition mid.actions.memory))) (sym k)
-            ∙ tested_as mid.budget mid.actions.memory new given a result eb t.does.memory t.holds;
-      }
+      does_so t.does (λ kind k given.
+      ap (λ gave_up. turn_by (acting_effects (output_of mid)) gave_up kind condition (state_in given mid)) h
+      ∙ ap (λ (setting : ActingSetting).
+      answered mid.budget (tested_after (record { memory = mid.actions.memory; out = given }) (turn_answer (measured setting) condition mid.actions.memory))) (sym k)
+      ∙ tested_as mid.budget mid.actions.memory new given a result eb t.does.memory t.holds)
 
   pub turn_given : (old mid new : BudgetedActions) (out out_mid out_new : S) (condition : List ℕ) (result : Bool)
       → Does left old out (charged_in old) mid out_mid
@@ -660,26 +576,16 @@ module _ {P S : Type 0} (left : P → S → List Message → Type 0) where
       → new.budget.gave_up ≡ true
       → Answers left old out (turned_in old condition) false new out_new
   unfolding language turn turn_by
-  turn_given_up old new out out_new condition a h = record {
-    setting = a.setting;
-    notes = a.notes;
-    came = a.came;
-    state = λ kind k given.
-        ap (λ (t : Budgeted State). turn_by (acting_effects (output_of old)) t.gave_up kind condition t) (a.state kind k given)
-        ∙ ap (λ gave_up. turn_by (acting_effects (output_of old)) gave_up kind condition (state_in (given ++ map says a.notes) new)) h;
-  }
+  turn_given_up old new out out_new condition a h = made a (λ kind k given.
+      ap (λ (t : Budgeted State). turn_by (acting_effects (output_of old)) t.gave_up kind condition t) (a.state kind k given)
+      ∙ ap (λ gave_up. turn_by (acting_effects (output_of old)) gave_up kind condition (state_in (given ++ map says a.notes) new)) h)
 
   -- ---- lines that head nothing
 
   pub leaf_passed : (old new : BudgetedActions) (out out_new : S) (reached : Reached) (may_call : Bool) (text : List ℕ)
       → Answers left old out (met_in old reached) false new out_new
       → Makes left old out (λ kind. IsIn kind old) (leaf_in old may_call text reached) new (done_as kinds.Nothing) out_new
-  leaf_passed old new out out_new reached may_call text a = record {
-    setting = a.setting;
-    notes = a.notes;
-    came = a.came;
-    state = λ kind k given. ap (leaf_after (language (acting_effects (output_of old))) may_call kind text) (a.state kind k given);
-  }
+  leaf_passed old new out out_new reached may_call text a = made a (λ kind k given. ap (leaf_after (language (acting_effects (output_of old))) may_call kind text) (a.state kind k given))
 
   leaf_done : (e : Effects State) (b : Budget) (s : State) (m : Memory) (new : BudgetedActions) (given : List Given) (notes : List Message) (p : Product) (result : ProductKind)
       → new.budget ≡ b → new.actions.memory ≡ m → result ≡ kind_of p → Lends p new.actions
@@ -714,16 +620,11 @@ module _ {P S : Type 0} (left : P → S → List Message → Type 0) where
       (met_in old reached) (λ kind q. leaf_after (language (acting_effects (output_of old))) may_call kind text q)
       (λ kind s. (language (acting_effects (output_of mid))).leaf may_call kind text s)
       (answer_with true) (done_as result) a
-      (record {
-        setting = g.does.setting;
-        notes = outcome.notes;
-        came = g.does.came;
-        state = λ kind k given.
-            ap (λ (setting : ActingSetting). done_with (acting_effects (output_of mid)) (state_in given mid)
-            (done_after (record { memory = mid.actions.memory; out = given }) (leaf_outcome (measured setting) may_call text mid.actions.memory))) (sym k)
-            ∙ leaf_done (acting_effects (output_of mid)) mid.budget (record { memory = mid.actions.memory; out = given }) outcome.memory new given outcome.notes outcome.product result
-            eb g.does.memory g.kind g.lends;
-      })
+      (does_so g.does (λ kind k given.
+      ap (λ (setting : ActingSetting). done_with (acting_effects (output_of mid)) (state_in given mid)
+      (done_after (record { memory = mid.actions.memory; out = given }) (leaf_outcome (measured setting) may_call text mid.actions.memory))) (sym k)
+      ∙ leaf_done (acting_effects (output_of mid)) mid.budget (record { memory = mid.actions.memory; out = given }) outcome.memory new given outcome.notes outcome.product result
+      eb g.does.memory g.kind g.lends))
       (kind_after old mid a.setting)
       (λ kind k given.
       ap (λ (output : Output). (language (acting_effects output)).leaf may_call kind text (state_in given mid))
@@ -751,14 +652,9 @@ module _ {P S : Type 0} (left : P → S → List Message → Type 0) where
       → acting.Does left old.actions out (end_of_block_outcome old.actions.memory) new.actions out_new
       → Makes left old out (IsAt is_page_now old) (unopened_in old) new state_after out_new
   unfolding meaning effects with_rest end_of_block_outcome
-  unopened_told old new out out_new is_page_now h eb d = record {
-    setting = d.setting;
-    notes = (end_of_block_outcome old.actions.memory).notes;
-    came = d.came;
-    state = λ kind k given.
-        told_by (acting_effects (output_of old)) kind old.budget.gave_up (state_in given old) (ap (λ page. not page && old.budget.gave_up) k.page ∙ h)
-        ∙ acted old.budget old.actions.memory new given (end_of_block_outcome old.actions.memory) eb d.memory refl;
-  }
+  unopened_told old new out out_new is_page_now h eb d = does_so d (λ kind k given.
+      told_by (acting_effects (output_of old)) kind old.budget.gave_up (state_in given old) (ap (λ page. not page && old.budget.gave_up) k.page ∙ h)
+      ∙ acted old.budget old.actions.memory new given (end_of_block_outcome old.actions.memory) eb d.memory refl)
 
   pub unopened_silent : (old : BudgetedActions) (out : S) (is_page_now : Bool)
       → (not is_page_now && old.budget.gave_up) ≡ true

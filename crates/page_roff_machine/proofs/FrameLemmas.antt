@@ -2,7 +2,7 @@
 use Rattle.std.proofs.Common.{◌≡◌, ℕ, zero, suc, ◌+◌, ◌*◌, ◌≤◌, ◌==◌, Bool, true, false, List, [], ◌∷◌, drop, length, Option, Some, None, refl, sym, ap, if◌then◌else◌, arith}
 use Rattle.page_core_base.specs.declared.limits.TheConstants.{BODY}
 use Rattle.page_roff_blocks.specs.declared.line_parts.LinePart.{LinePart}
-use Rattle.page_roff_blocks.specs.declared.line_parts.LinePart.TheVariants.{Leaf, Guard, Block, Loop, End, Region}
+use Rattle.page_roff_blocks.specs.declared.line_parts.LinePart.TheVariants.{Region}
 use Rattle.page_roff_blocks.specs.declared.block_cursors.Pass.{Pass}
 use Rattle.page_roff_blocks.specs.declared.block_cursors.Pass.TheVariants as passes
 use Rattle.page_roff_blocks.specs.declared.levels.Way.{Way}
@@ -148,15 +148,12 @@ turn_within (Some turning) f e h t = h
 -- by a part
 pass_kept : (pass : Pass) (s : Stack) → IfEnters pass (is_part (next_of s) ≡ true) → IsKept s.top → IsKept (past (passed pass s.top.cursor) s.top)
 unfolding after_part skip
-pass_kept passes.Leaf s h = same_kept s.top (passed passes.Leaf s.top.cursor) (λ e. e)
-pass_kept (passes.Guard None) s h = same_kept s.top (passed (passes.Guard None) s.top.cursor) (λ e. e)
-pass_kept (passes.Guard (Some a)) s h = same_kept s.top (passed (passes.Guard (Some a)) s.top.cursor) (λ e. e)
-pass_kept (passes.Block None) s h = same_kept s.top (passed (passes.Block None) s.top.cursor) (λ e. e)
 pass_kept (passes.Block (Some a)) s h =
     let l = s.top.cursor.levels in same_kept s.top (passed (passes.Block (Some a)) s.top.cursor) (enter_in (way_of a.value (length l.outer)) a.bit l)
 pass_kept (passes.Loop true) s h = open_kept s.top (passed (passes.Loop true) s.top.cursor) (outside_regions s h)
-pass_kept (passes.Loop false) s h = same_kept s.top (passed (passes.Loop false) s.top.cursor) (λ e. e)
 pass_kept passes.End s h = same_kept s.top (passed passes.End s.top.cursor) (leave_in s.top.cursor.levels)
+pass_kept (passes.Guard (Some a)) s h = same_kept s.top (passed (passes.Guard (Some a)) s.top.cursor) (λ e. e)
+pass_kept pass s h = same_kept s.top (passed pass s.top.cursor) (λ e. e)
 
 pub moved_kept : (movement : Movement) (s : Stack) → Suits movement (next_of s) → Keeps movement s.top → IsKept s.top → IsKept (went movement s.top)
 unfolding at_line
@@ -168,12 +165,8 @@ moved_kept _ s h k = λ f. record { turning = f.turning; region = λ e. tt }
 
 pub moved_source : (movement : Movement) (s : Stack) → Keeps movement s.top → IsBodyWithin s (with_top (went movement s.top) s)
 unfolding at_part
-moved_source (moves.Part pass) s k = same_source s (with_top (went (moves.Part pass) s.top) s) refl refl
-moved_source (moves.Region is_run) s k = same_source s (with_top (went (moves.Region is_run) s.top) s) refl refl
-moved_source moves.Line s k = same_source s (with_top (went moves.Line s.top) s) refl refl
-moved_source moves.RegionLine s k = same_source s (with_top (went moves.RegionLine s.top) s) refl refl
-moved_source moves.RegionEnd s k = same_source s (with_top (went moves.RegionEnd s.top) s) refl refl
 moved_source moves.Turn s k = record {
   begins = λ e. let n : length s.under ≡ suc (length s.under) = e in absurd (omega arith);
   turns = λ e n. turn_within s.top.turning s.top refl k n;
 }
+moved_source movement s k = same_source s (with_top (went movement s.top) s) refl refl

@@ -199,10 +199,8 @@ module _ {P S : Type 0} (left : P → S → List Message → Type 0) where
   }
 
   product_done : (product : ProductKind) (P : Type 0) → IfDone (progress_as product) P
-  product_done kinds.Nothing P = tt
   product_done kinds.Line P = tt
-  product_done kinds.Call P = tt
-  product_done kinds.Loop P = tt
+  product_done _ P = tt
 
   pub quiet_product : (old new : Runner) (out : S) (act : Act) (product : ProductKind) → Shifts old act (progress_as product) new
       → Moves left old out act (progress_as product) new out
