@@ -7,15 +7,12 @@ use Rattle.page_core_base.specs.declared.faults.Fault.TheVariants.{Memory, Read,
 use Rattle.page_core_base.specs.declared.page_settings.Settings.{Settings as PageSettings}
 use Rattle.page_core_streams.specs.Streams.{Grows, row_bytes, message_bytes}
 use Rattle.page_engine.specs.declared.runs.Outcome.{Outcome}
-use Rattle.page_engine.specs.Runs.{Runs, whole_page, settled_page, Streams, streams, AllCame, FrontCame, WritesRows, WritesRowsInto, WritesNotes, WritesNotesInto}
+use Rattle.page_engine.specs.Runs.{Runs, whole_page, settled_page, Streams, writers, AllCame, FrontCame}
 use Rattle.page_engine.specs.Edges.{Edge, start}
 
--- streams of lists, and of writers
+-- streams of lists
 abbrev lists : List ℕ → Streams (List ℕ) (List ℕ)
-lists name = streams (WritesRows Some) (WritesRowsInto Some) (WritesNotes Some name) (WritesNotesInto Some name)
-
-abbrev writers : {R N : Type 0} → (R → Option (List ℕ)) → (N → Option (List ℕ)) → List ℕ → Streams R N
-writers c d name = streams (WritesRows c) (WritesRowsInto c) (WritesNotes d name) (WritesNotesInto d name)
+lists name = writers Some Some name
 
 pub record AsLists {R N : Type 0} (c : R → Option (List ℕ)) (d : N → Option (List ℕ)) (name : List ℕ) (result : Result Outcome Fault)
     (r r' : R) (n n' : N) (settings : PageSettings) (bytes : List ℕ) (after : Option (List ℕ)) : Type 0 where

@@ -12,7 +12,7 @@ use Rattle.page_core_base.specs.declared.page_settings.Output.{Output}
 use Rattle.page_core_base.specs.declared.page_settings.Output.TheVariants as output
 use Rattle.page_core_streams.specs.Streams.{Grows}
 use Rattle.page_engine.specs.declared.runs.Outcome.{Outcome}
-use Rattle.page_engine.specs.Runs.{WritesRows, WritesRowsInto, WritesNotes, WritesNotesInto, streams, Runs}
+use Rattle.page_engine.specs.Runs.{writers, Runs}
 use Rattle.mandoc_command.specs.Status.{status}
 use Rattle.mandoc_formats.specs.ShownNames.{is_hidden}
 use Rattle.mandoc_formats.specs.declared.faults.Done.{Done}
@@ -62,9 +62,7 @@ pub record Page : Type 0 where
 
 -- the run is one over these bytes, with messages about a file
 abbrev pub IsPage : PageSettings → (name : List ℕ) → Page → Type 0
-IsPage settings name page = Runs page.end
-    (streams (WritesRows Some) (WritesRowsInto Some) (WritesNotes Some name) (WritesNotesInto Some name))
-    [] page.rows [] page.notes settings page.bytes page.left
+IsPage settings name page = Runs page.end (writers Some Some name) [] page.rows [] page.notes settings page.bytes page.left
 
 -- to the output come the rows, and the messages beside it; under lint the messages alone
 abbrev pub page_out : Output → Page → List ℕ

@@ -10,7 +10,7 @@ use Rattle.page_roff_lines.specs.Lines.{lines_made, line_left}
 use Rattle.page_engine.specs.declared.runs.Outcome.{Outcome}
 use Rattle.page_engine.specs.Page.{page, settled}
 use Rattle.page_engine.specs.Edges.{start}
-use Rattle.page_engine.specs.Runs.{RunsOver, Whole, Broken, BrokeIn, Untouched, Quiet, whole_page, settled_page, Sinks, AllCame, FrontCame}
+use Rattle.page_engine.specs.Runs.{RunsOver, Whole, Broken, BrokeIn, whole_page, settled_page, Sinks, AllCame, FrontCame}
 
 -- sinks over what lies below them: what comes to the sinks comes there, where a fact of the sink of messages stays, and they fail as it does
 pub record LieOver {R N W V : Type 0} (k : Sinks R N) (i : Sinks W V) (f : R → W) (g : N → V) (P : N → Type 0) : Type 0 where
@@ -30,7 +30,7 @@ module _ {R N W V : Type 0} (k : Sinks R N) (i : Sinks W V) (f : R → W) (g : N
   front_on r r' n n' l p h = record { rows = o.rows_front r r' l.rows h.rows; notes = o.notes_front n n' l.notes p h.notes }
 
   whole_on : (r r' : R) (n n' : N) (s : PageSettings) (bytes : List ℕ) (after : _) (out : Outcome) → P n
-      → Whole k.to r r' n n' s bytes after out → Whole i.to (f r) (f r') (g n) (g n') s bytes after out
+      → Whole (λ l. AllCame k.to r r' n n' l) s bytes after out → Whole (λ l. AllCame i.to (f r) (f r') (g n) (g n') l) s bytes after out
   whole_on r r' n n' s bytes after out p h = record {
     gave = all_on r r' n n' (whole_page s bytes) p h.gave;
     worst = h.worst;
@@ -66,16 +66,6 @@ module _ {R N W V : Type 0} (k : Sinks R N) (i : Sinks W V) (f : R → W) (g : N
     cause = cause_at fault _ _ _ _ _ _ _ _ (o.rows_failed r) (o.rows_failed r') (o.notes_failed n) (o.notes_failed n') h.cause;
   }
 
-  untouched_on : (a b : SourceState) (r r' : R) (n n' : N) → Untouched a b r r' n n' → Untouched a b (f r) (f r') (g n) (g n')
-  untouched_on a b r r' n n' h = record { source = h.source; rows = ap f h.rows; notes = ap g h.notes }
-
-  quiet_on : (a b : SourceState) (r r' : R) (n n' : N) → Quiet k a b r r' n n' → Quiet i a b (f r) (f r') (g n) (g n')
-  quiet_on a b r r' n n' h = record {
-    source = h.source;
-    rows = sym (o.rows_failed r') ∙ (h.rows ∙ o.rows_failed r);
-    notes = sym (o.notes_failed n') ∙ (h.notes ∙ o.notes_failed n);
-  }
-
   pub caused_on : (a b : SourceState) (r r' : R) (n n' : N) (s : PageSettings) (bytes : List ℕ) (res : Result Outcome Fault) → P n
       → RunsOver res k a b r r' n n' s bytes → RunsOver res i a b (f r) (f r') (g n) (g n') s bytes
   caused_on a b r r' n n' s bytes (Ok out) p h = record {
@@ -84,7 +74,7 @@ module _ {R N W V : Type 0} (k : Sinks R N) (i : Sinks W V) (f : R → W) (g : N
     source = h.source;
     lean = h.lean;
     runs = whole_on r r' n n' s bytes b.remaining out p h.runs;
-    cause = quiet_on a b r r' n n' h.cause;
+    cause = (h.cause.0, sym (o.rows_failed r') ∙ (h.cause.1 ∙ o.rows_failed r), sym (o.notes_failed n') ∙ (h.cause.2 ∙ o.notes_failed n));
   }
   caused_on a b r r' n n' s bytes (Err Memory) p h = record {
     asked = h.asked;
@@ -92,7 +82,7 @@ module _ {R N W V : Type 0} (k : Sinks R N) (i : Sinks W V) (f : R → W) (g : N
     source = h.source;
     lean = h.lean;
     runs = (h.runs.0, h.runs.1, all_on r r' n n' (nothing (start s)) p h.runs.2);
-    cause = untouched_on a b r r' n n' h.cause;
+    cause = (h.cause.0, ap f h.cause.1, ap g h.cause.2);
   }
   caused_on a b r r' n n' s bytes (Err Read) p h = record {
     asked = h.asked;
@@ -132,7 +122,7 @@ module _ {R N W V : Type 0} (k : Sinks R N) (i : Sinks W V) (f : R → W) (g : N
     source = h.source;
     lean = h.lean;
     runs = (h.runs.0, h.runs.1, all_on r r' n n' (nothing (start s)) p h.runs.2);
-    cause = untouched_on a b r r' n n' h.cause;
+    cause = (h.cause.0, ap f h.cause.1, ap g h.cause.2);
   }
   caused_on a b r r' n n' s bytes (Err Failed) p h = absurd h.cause
   caused_on a b r r' n n' s bytes (Err Ended) p h = absurd h.cause

@@ -19,7 +19,8 @@ use Rattle.page_engine.specs.Edges.{Edge, start}
 use Rattle.page_engine.specs.laws.Views.{counts_at}
 use Rattle.page_engine.specs.Page.{page, settled}
 use Rattle.page_core_streams.specs.laws.Views.{Stops}
-use Rattle.page_core_streams.specs.Streams.{SourceState}
+use Rattle.page_core_base.specs.Messages.{Rose}
+use Rattle.page_core_streams.specs.Streams.{SourceState, IsTooLong}
 use Rattle.page_engine.specs.Runs.{Streams, Sinks, AllCame, FrontCame, RunsOver, Stopped, StoppedBy, BrokeIn, Broken, whole_page, settled_page}
 use Rattle.page_engine.specs.machine.Points.{page_from, settled_from, BrokeFrom, BrokenFrom}
 use Rattle.page_engine.specs.machine.PageSinks.{cause_later}
@@ -171,7 +172,8 @@ stopped_run k rows notes a b r r' n n' s asked bytes TooLong g h = (g, rw (← s
 stopped_run k rows notes a b r r' n n' s asked bytes _ g h = absurd h
 
 cause_of : {R N : Type 0} (k : Sinks R N) (a b : SourceState) (r r' : R) (n n' : N) (s : PageSettings) (asked : ℕ) (bytes : List ℕ) (fault : Fault)
-    → StoppedFrom k a b r r' n n' (start s) (first_point s.encoding) asked bytes fault → StoppedBy k a b r r' n n' s asked bytes fault
+    → StoppedFrom k a b r r' n n' (start s) (first_point s.encoding) asked bytes fault
+    → StoppedBy ((b ≡ a) × (r' ≡ r) × (n' ≡ n)) (Rose a.failed b.failed) (IsTooLong asked bytes) (λ f. Broken k r r' n n' s bytes f) fault
 cause_of k a b r r' n n' s asked bytes Read h = h.1
 cause_of k a b r r' n n' s asked bytes WriteText h = broken_start k r r' n n' s bytes WriteText h
 cause_of k a b r r' n n' s asked bytes WriteNotes h = broken_start k r r' n n' s bytes WriteNotes h
@@ -212,7 +214,7 @@ runs_well k s p bytes o q g h ow oc =
         good = g;
         all = f.all;
       };
-      cause = record { source = f.quiet; rows = f.came.rows_quiet; notes = f.came.notes_quiet };
+      cause = (f.quiet, f.came.rows_quiet, f.came.notes_quiet);
     }
 
 -- ---- nothing was read or given
@@ -229,7 +231,7 @@ runs_refused k rows notes a r n s fault h = record {
   source = given_none a;
   lean = lean_none a;
   runs = (h, refl, none_came k.to rows notes r n (start s));
-  cause = record { source = refl; rows = refl; notes = refl };
+  cause = (refl, refl, refl);
 }
 
 runs_without_memory : {R N : Type 0} (k : Sinks R N) → IsSink k.to.row_gave k.to.row_within → IsSink k.to.note_gave k.to.note_within
@@ -240,7 +242,7 @@ runs_without_memory k rows notes a r n s g = record {
   source = given_none a;
   lean = lean_none a;
   runs = (g, refl, none_came k.to rows notes r n (start s));
-  cause = record { source = refl; rows = refl; notes = refl };
+  cause = (refl, refl, refl);
 }
 
 -- a page that cannot start

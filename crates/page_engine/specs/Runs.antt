@@ -22,10 +22,14 @@ pub record Streams (R N : Type 0) : Type 1 where
   pub note_gave : N → List Message → N → Type 0
   pub note_within : N → List Message → N → Type 0
 
-abbrev pub streams : {R N : Type 0} → (R → List LaidRow → R → Type 0) → (R → List LaidRow → R → Type 0)
-    → (N → List Message → N → Type 0) → (N → List Message → N → Type 0) → Streams R N
-streams row_gave row_within note_gave note_within =
-    record { row_gave = row_gave; row_within = row_within; note_gave = note_gave; note_within = note_within }
+-- writers whose bytes are known got those of rows, and of messages about a file, or of a front of them. Source: mandoc(1), "ASCII Output" and "DIAGNOSTICS".
+abbrev pub writers : {W V : Type 0} → (rows : W → Option (List ℕ)) → (notes : V → Option (List ℕ)) → (file : List ℕ) → Streams W V
+writers rows notes file = record {
+  row_gave = λ w given w'. Grows (rows w) (rows w') (flat_map row_bytes given);
+  row_within = λ w given w'. GrowsInto (rows w) (rows w') (flat_map row_bytes given);
+  note_gave = λ v given v'. Grows (notes v) (notes v') (flat_map (message_bytes file) given);
+  note_within = λ v given v'. GrowsInto (notes v) (notes v') (flat_map (message_bytes file) given);
+}
 
 -- all that is laid came; a front of it came to each
 abbrev pub AllCame : {R N E : Type 0} → Streams R N → R → R → N → N → Laid E → Type 0
@@ -42,33 +46,6 @@ pub record Sinks (R N : Type 0) : Type 1 where
   pub rows_failed : R → ℕ
   pub notes_failed : N → ℕ
 
-abbrev pub sinks : {R N : Type 0} → (R → List LaidRow → R → Type 0) → (R → List LaidRow → R → Type 0)
-    → (R → ℕ) → (N → List Message → N → Type 0) → (N → List Message → N → Type 0) → (N → ℕ) → Sinks R N
-sinks row_gave row_within rows_failed note_gave note_within notes_failed = record {
-  to = streams row_gave row_within note_gave note_within;
-  rows_failed = rows_failed;
-  notes_failed = notes_failed;
-}
-
--- ---- What a run writes: the bytes of rows and of messages.
--- Source: mandoc(1), "ASCII Output" and "DIAGNOSTICS".
-
--- a writer whose bytes are known got those of these rows; of a front of them
-abbrev pub WritesRows : {W : Type 0} → (W → Option (List ℕ)) → W → List LaidRow → W → Type 0
-WritesRows contents w rows w' = Grows (contents w) (contents w') (flat_map row_bytes rows)
-
-abbrev pub WritesRowsInto : {W : Type 0} → (W → Option (List ℕ)) → W → List LaidRow → W → Type 0
-WritesRowsInto contents w rows w' = GrowsInto (contents w) (contents w') (flat_map row_bytes rows)
-
--- a writer got those of these messages about a file; of a front of them
-abbrev pub WritesNotes : {V : Type 0} → (V → Option (List ℕ)) → List ℕ → V → List Message → V → Type 0
-WritesNotes contents file v messages v' =
-    Grows (contents v) (contents v') (flat_map (message_bytes file) messages)
-
-abbrev pub WritesNotesInto : {V : Type 0} → (V → Option (List ℕ)) → List ℕ → V → List Message → V → Type 0
-WritesNotesInto contents file v messages v' =
-    GrowsInto (contents v) (contents v') (flat_map (message_bytes file) messages)
-
 -- ---- What a run over the bytes of a page did. Source: mandoc(1).
 
 -- ---- a whole run
@@ -81,9 +58,8 @@ abbrev pub settled_page : PageSettings → List ℕ → Laid Edge
 settled_page settings bytes = settled (start settings) (whole_lines settings.encoding bytes)
 
 -- to the sinks came all of the page that these bytes make, and with it its worst level and its counts
-pub record Whole {R N : Type 0} (streams : Streams R N) (rows_before rows_after : R) (notes_before notes_after : N)
-    (settings : PageSettings) (bytes : List ℕ) (after : Option (List ℕ)) (outcome : Outcome) : Type 0 where
-  pub gave : AllCame streams rows_before rows_after notes_before notes_after (whole_page settings bytes)
+pub record Whole (came : Laid Edge → Type 0) (settings : PageSettings) (bytes : List ℕ) (after : Option (List ℕ)) (outcome : Outcome) : Type 0 where
+  pub gave : came (whole_page settings bytes)
   pub worst : outcome.worst ≡ (whole_page settings bytes).edge.worst
   pub source : outcome.counts.source ≡ length (lines settings.encoding bytes)
   pub counts : outcome.counts ≡ (whole_page settings bytes).edge.roff.counts
@@ -104,12 +80,10 @@ Stopped came_whole came_front settings bytes _ = ⊥
 
 abbrev pub Runs : {R N : Type 0} → Result Outcome Fault → Streams R N → R → R → N → N
     → PageSettings → List ℕ → Option (List ℕ) → Type 0
-Runs result streams rows_before rows_after notes_before notes_after settings bytes after = MatchResult result
-    (Whole streams rows_before rows_after notes_before notes_after settings bytes after)
-    (λ fault. Stopped
-    (λ (laid : Laid Edge). AllCame streams rows_before rows_after notes_before notes_after laid)
-    (λ (laid : Laid Edge). FrontCame streams rows_before rows_after notes_before notes_after laid)
-    settings bytes fault)
+Runs result streams rows_before rows_after notes_before notes_after settings bytes after =
+    let came : Laid Edge → Type 0 = λ laid. AllCame streams rows_before rows_after notes_before notes_after laid in
+    let front : Laid Edge → Type 0 = λ laid. FrontCame streams rows_before rows_after notes_before notes_after laid in
+    MatchResult result (λ outcome. Whole came settings bytes after outcome) (λ fault. Stopped came front settings bytes fault)
 
 -- ---- the causes of faults
 
@@ -138,39 +112,18 @@ pub record Broken {R N : Type 0} (sinks : Sinks R N) (rows_before rows_after : R
   pub cause : IsSinkFault fault (sinks.rows_failed rows_before) (sinks.rows_failed rows_after)
       (sinks.notes_failed notes_before) (sinks.notes_failed notes_after)
 
--- nothing was read and nothing was given
-pub record Untouched {R N : Type 0} (source_before source_after : SourceState) (rows_before rows_after : R)
-    (notes_before notes_after : N) : Type 0 where
-  pub source : source_after ≡ source_before
-  pub rows : rows_after ≡ rows_before
-  pub notes : notes_after ≡ notes_before
+-- Why a run over a source stopped, by its fault: it was refused and nothing was touched, a read failed, there was too much, or a sink failed.
+abbrev pub StoppedBy : (untouched rose too_long : Type 0) → (broken : Fault → Type 0) → Fault → Type 0
+StoppedBy untouched rose too_long broken Read = rose
+StoppedBy untouched rose too_long broken TooLong = too_long
+StoppedBy untouched rose too_long broken WriteText = broken WriteText
+StoppedBy untouched rose too_long broken WriteNotes = broken WriteNotes
+StoppedBy untouched rose too_long broken Memory = untouched
+StoppedBy untouched rose too_long broken (Settings fault) = untouched
+StoppedBy untouched rose too_long broken _ = ⊥
 
--- Why a run over a source stopped, by its fault: nothing was touched, a read failed, there was too much, or a sink failed.
-abbrev pub StoppedBy : {R N : Type 0} → Sinks R N → (source_before source_after : SourceState) → (rows_before rows_after : R)
-    → (notes_before notes_after : N) → PageSettings → (asked : ℕ) → (bytes : List ℕ) → Fault → Type 0
-StoppedBy sinks source_before source_after rows_before rows_after notes_before notes_after settings asked bytes Memory =
-    Untouched source_before source_after rows_before rows_after notes_before notes_after
-StoppedBy sinks source_before source_after rows_before rows_after notes_before notes_after settings asked bytes Read =
-    Rose source_before.failed source_after.failed
-StoppedBy sinks source_before source_after rows_before rows_after notes_before notes_after settings asked bytes TooLong =
-    IsTooLong asked bytes
-StoppedBy sinks source_before source_after rows_before rows_after notes_before notes_after settings asked bytes WriteText =
-    Broken sinks rows_before rows_after notes_before notes_after settings bytes WriteText
-StoppedBy sinks source_before source_after rows_before rows_after notes_before notes_after settings asked bytes WriteNotes =
-    Broken sinks rows_before rows_after notes_before notes_after settings bytes WriteNotes
-StoppedBy sinks source_before source_after rows_before rows_after notes_before notes_after settings asked bytes (Settings fault) =
-    Untouched source_before source_after rows_before rows_after notes_before notes_after
-StoppedBy sinks source_before source_after rows_before rows_after notes_before notes_after settings asked bytes _ =
-    ⊥
-
--- nothing failed
-pub record Quiet {R N : Type 0} (sinks : Sinks R N) (source_before source_after : SourceState)
-    (rows_before rows_after : R) (notes_before notes_after : N) : Type 0 where
-  pub source : source_after.failed ≡ source_before.failed
-  pub rows : sinks.rows_failed rows_after ≡ sinks.rows_failed rows_before
-  pub notes : sinks.notes_failed notes_after ≡ sinks.notes_failed notes_before
-
--- a run over a source: by this number of calls, at most 2^32 - 1, it gave these bytes; but for one of them, each gave a byte or was empty
+-- a run over a source: by this number of calls, at most 2^32 - 1, it gave these bytes; but for one of them, each gave a byte or was empty; and where it
+-- ended well, nothing failed
 pub record RunsOver {R N : Type 0} (result : Result Outcome Fault) (sinks : Sinks R N)
     (source_before source_after : SourceState) (rows_before rows_after : R) (notes_before notes_after : N)
     (settings : PageSettings) (bytes : List ℕ) : Type 0 where
@@ -180,6 +133,8 @@ pub record RunsOver {R N : Type 0} (result : Result Outcome Fault) (sinks : Sink
   pub lean : IsLean source_before source_after asked bytes
   pub runs : Runs result sinks.to rows_before rows_after notes_before notes_after settings bytes source_after.remaining
   pub cause : MatchResult result
-      (λ _. Quiet sinks source_before source_after rows_before rows_after notes_before notes_after)
-      (λ fault. StoppedBy sinks source_before source_after rows_before rows_after notes_before notes_after
-      settings asked bytes fault)
+      (λ _. (source_after.failed ≡ source_before.failed) × (sinks.rows_failed rows_after ≡ sinks.rows_failed rows_before)
+      × (sinks.notes_failed notes_after ≡ sinks.notes_failed notes_before))
+      (λ fault. StoppedBy ((source_after ≡ source_before) × (rows_after ≡ rows_before) × (notes_after ≡ notes_before))
+      (Rose source_before.failed source_after.failed) (IsTooLong asked bytes)
+      (λ broke. Broken sinks rows_before rows_after notes_before notes_after settings bytes broke) fault)

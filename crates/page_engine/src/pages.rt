@@ -6,9 +6,8 @@ ghost use Rattle.page_core_base.specs.Texts.{IsLine};
 ghost use Rattle.page_core_base.specs.declared.faults.Fault.{Fault};
 ghost use Rattle.page_roff_lines.specs.laws.Cutting.{line_of};
 ghost use Rattle.page_engine.specs.Edges.{Edge, start};
-ghost use Rattle.page_engine.specs.laws.Views.{text_line, AreWell};
+ghost use Rattle.page_engine.specs.laws.Views.{text_line, AreWell, sinks};
 ghost use Rattle.page_engine.specs.Page.{settled, page};
-ghost use Rattle.page_engine.specs.Runs.{sinks};
 ghost use Rattle.page_engine.specs.laws.Within.{HoldsWithin, IsWithin};
 ghost use Rattle.page_engine.specs.laws.States.{IsOpenAt, CannotStart, closed, line_fault, line_fault_of, IsRefused, Takes, Ends};
 

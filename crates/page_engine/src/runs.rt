@@ -7,8 +7,8 @@ ghost use Rattle.page_core_streams.specs.Streams.{SourceState};
 ghost use Rattle.page_core_streams.specs.laws.Views.{source_state};
 ghost use Rattle.page_engine.specs.Edges.{Edge};
 ghost use Rattle.page_engine.specs.laws.States.{IsOpenAt, CannotStart};
-ghost use Rattle.page_engine.specs.Runs.{streams, sinks, WritesRows, WritesRowsInto, WritesNotes, WritesNotesInto, Runs, RunsOver};
-ghost use Rattle.page_engine.specs.laws.Views.{RunsIn};
+ghost use Rattle.page_engine.specs.Runs.{writers, Runs, RunsOver};
+ghost use Rattle.page_engine.specs.laws.Views.{RunsIn, sinks};
 ghost use Rattle.page_engine.specs.machine.Steps.{CanTake, TakesPart, TakesChunk, TakesLast, PutsOut, Finishes, StartsAt, IsFresh, ReadsAll};
 
 use crate::pages::Page;
@@ -218,14 +218,11 @@ pub fn run_page<I: Input, W: Target, V: Target>(
     settings: &Settings,
 ) -> Result<Outcome, Fault>
     ensures runs { (bytes : List ℕ) × Consumes (I.state reader.old).remaining (I.state reader.new).remaining bytes
-        × Runs result (streams
-        (WritesRows W.contents) (WritesRowsInto W.contents)
-        (WritesNotes V.contents file.now) (WritesNotesInto V.contents file.now))
+        × Runs result (writers W.contents V.contents file.now)
         out.old out.new notes.old notes.new settings.now bytes (I.state reader.new).remaining }
     ensures causes { I.counts ≡ true → W.counts ≡ true → V.counts ≡ true → (bytes : List ℕ)
-        × RunsOver result (sinks
-        (WritesRows W.contents) (WritesRowsInto W.contents) W.failures
-        (WritesNotes V.contents file.now) (WritesNotesInto V.contents file.now) V.failures)
+        × RunsOver result
+        (record { to = writers W.contents V.contents file.now; rows_failed = W.failures; notes_failed = V.failures })
         (I.state reader.old) (I.state reader.new) out.old out.new notes.old notes.new settings.now bytes }
 {
     let mut source = Over::new(reader);
@@ -244,14 +241,11 @@ pub fn run_bytes<W: Target, V: Target>(
     file: &str,
     settings: &Settings,
 ) -> Result<Outcome, Fault>
-    ensures runs { RunsIn result (streams
-        (WritesRows W.contents) (WritesRowsInto W.contents)
-        (WritesNotes V.contents file.now) (WritesNotesInto V.contents file.now))
+    ensures runs { RunsIn result (writers W.contents V.contents file.now)
         out.old out.new notes.old notes.new settings.now bytes.now }
     ensures causes { W.counts ≡ true → V.counts ≡ true → (after : SourceState) × (taken : List ℕ)
-        × RunsOver result (sinks
-        (WritesRows W.contents) (WritesRowsInto W.contents) W.failures
-        (WritesNotes V.contents file.now) (WritesNotesInto V.contents file.now) V.failures)
+        × RunsOver result
+        (record { to = writers W.contents V.contents file.now; rows_failed = W.failures; notes_failed = V.failures })
         (source_state (Some bytes.now) 0 0 0 0) after out.old out.new notes.old notes.new settings.now taken }
 {
     let mut slice = SliceSource::new(bytes);

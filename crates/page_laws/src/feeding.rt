@@ -4,8 +4,7 @@ ghost use Rattle.std.specs.Prelude.{◌≡◌, ◌+◌, ◌-◌, ◌^◌, ◌≤
 ghost use Rattle.page_core_base.specs.Texts.{IsLine};
 ghost use Rattle.page_engine.specs.Edges.{Edge};
 ghost use Rattle.page_engine.specs.laws.States.{IsOpenAt};
-ghost use Rattle.page_engine.specs.Runs.{sinks};
-ghost use Rattle.page_engine.specs.laws.Views.{AreWell};
+ghost use Rattle.page_engine.specs.laws.Views.{sinks, AreWell};
 ghost use Rattle.page_laws.specs.Fed.{lines_given, FeedsAll};
 
 use page_core_base::{Fault, NoteSink, RowSink};

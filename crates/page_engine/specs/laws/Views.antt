@@ -16,7 +16,7 @@ use Rattle.page_fill_rows.specs.laws.Views.{IsHeld}
 use Rattle.page_fill.specs.laws.Views.{is_sound}
 use Rattle.page_engine.specs.Edges.{Edge, start}
 use Rattle.page_engine.specs.Page.{shown_rows, is_reported_level, reported, worse, worst_of}
-use Rattle.page_engine.specs.Runs.{AllCame, Sinks, sinks, FrontCame, whole_page, settled_page, Whole, Streams}
+use Rattle.page_engine.specs.Runs.{AllCame, Sinks, FrontCame, whole_page, settled_page, Whole, Streams}
 use Rattle.page_engine.specs.declared.runs.Outcome.{Outcome}
 
 -- source lines, lines taken of them, and interpolations
@@ -125,6 +125,15 @@ filter-whole ng nw whole below least worst s t xs g = whole (below s) (below t) 
 abbrev pub text_line : List ℕ → ℕ → Line
 text_line text number = record { number = number; text = text; notes = [] }
 
+-- sinks by what came to each, and by their failures
+abbrev pub sinks : {R N : Type 0} → (R → List LaidRow → R → Type 0) → (R → List LaidRow → R → Type 0)
+    → (R → ℕ) → (N → List Message → N → Type 0) → (N → List Message → N → Type 0) → (N → ℕ) → Sinks R N
+sinks row_gave row_within rows_failed note_gave note_within notes_failed = record {
+  to = record { row_gave = row_gave; row_within = row_within; note_gave = note_gave; note_within = note_within };
+  rows_failed = rows_failed;
+  notes_failed = notes_failed;
+}
+
 -- all that is laid came, and no sink failed
 pub record Came {R N E : Type 0} (sinks : Sinks R N) (rows_before rows_after : R) (notes_before notes_after : N)
     (laid : Laid E) : Type 0 where
@@ -168,7 +177,7 @@ StoppedIn came_whole came_front settings bytes _ = ⊥
 abbrev pub RunsIn : {R N : Type 0} → Result Outcome Fault → Streams R N → R → R → N → N
     → PageSettings → List ℕ → Type 0
 RunsIn result streams rows_before rows_after notes_before notes_after settings bytes = MatchResult result
-    (Whole streams rows_before rows_after notes_before notes_after settings bytes (Some []))
+    (λ outcome. Whole (λ laid. AllCame streams rows_before rows_after notes_before notes_after laid) settings bytes (Some []) outcome)
     (λ fault. StoppedIn
     (λ (laid : Laid Edge). AllCame streams rows_before rows_after notes_before notes_after laid)
     (λ (laid : Laid Edge). FrontCame streams rows_before rows_after notes_before notes_after laid)

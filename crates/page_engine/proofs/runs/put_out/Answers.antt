@@ -1,4 +1,4 @@
-use Rattle.page_engine.specs.Runs.{sinks}
+use Rattle.page_engine.specs.laws.Views.{sinks}
 use Rattle.page_engine.proofs.Through.{rows_out, rows_broke}
 use Rattle.page_engine.proofs.runs.put_out.Goals as goal
 

@@ -6,7 +6,7 @@ use Rattle.page_core_streams.specs.declared.text_rows.TextRows.{TextRows}
 use Rattle.page_core_streams.specs.declared.text_notes.TextNotes.{TextNotes}
 use Rattle.page_core_streams.proofs.FailureLemmas.{count_true}
 use Rattle.page_engine.specs.laws.Views.{RunsIn}
-use Rattle.page_engine.specs.Runs.{RunsOver, Sinks, streams, sinks, WritesRows, WritesRowsInto, WritesNotes, WritesNotesInto}
+use Rattle.page_engine.specs.Runs.{RunsOver, Sinks, writers}
 use Rattle.page_engine.proofs.Causes.{caused_on}
 use Rattle.page_engine.proofs.KnownBytes.{runs_in, passed_on}
 use Rattle.page_engine.proofs.runs.run_bytes.Goals as goal
@@ -22,9 +22,9 @@ returns-clause-runs g c =
     let v = g.V.Target in
     let y = runs_in _ c.args.settings.now c.args.bytes.now c.run_sinks.new.source.rest.now h.0 c.run_sinks.new.source.calls
     c.run_sinks.new.source.given c.run_sinks.result (rw (source.rest, source.calls, source.given) at h.1) in
-    let z : RunsIn c.run_sinks.result (streams (WritesRows w.contents) (WritesRowsInto w.contents) (WritesNotes v.contents file) (WritesNotesInto v.contents file))
+    let z : RunsIn c.run_sinks.result (writers w.contents v.contents file)
     c.args.out.now c.run_sinks.new.rows.out.now c.args.notes.now c.run_sinks.new.notes.out.now c.args.settings.now c.args.bytes.now =
-    passed_on _ (streams (WritesRows w.contents) (WritesRowsInto w.contents) (WritesNotes v.contents file) (WritesNotesInto v.contents file))
+    passed_on _ (writers w.contents v.contents file)
     _ _ _ _ _ _ _ _ c.args.settings.now c.args.bytes.now c.run_sinks.result
     (λ _ x. rw rows.out at x) (λ _ x. rw rows.out at x) (λ _ x. rw (notes.out, notes.file) at x.1) (λ _ x. rw (notes.out, notes.file) at x) y in
     search rules
@@ -40,8 +40,7 @@ returns-clause-causes g c = λ w v.
     let res = c.run_sinks.result in
     let out = g.W.Target in
     let err = g.V.Target in
-    let k : Sinks g.row.W.Denot g.row.V.Denot = sinks (WritesRows out.contents) (WritesRowsInto out.contents) out.failures
-    (WritesNotes err.contents file) (WritesNotesInto err.contents file) err.failures in
+    let k : Sinks g.row.W.Denot g.row.V.Denot = record { to = writers out.contents err.contents file; rows_failed = out.failures; notes_failed = err.failures } in
     let f : TextRows g.row.W.Denot → g.row.W.Denot = λ x. x.out.now in
     let n : TextNotes g.row.V.Denot → g.row.V.Denot = λ x. x.out.now in
     let P : TextNotes g.row.V.Denot → Type 0 = λ x. x.file.now ≡ file in

@@ -4,7 +4,7 @@ use Rattle.page_core_streams.specs.Streams.{Grows, GrowsInto, message_bytes, Sou
 use Rattle.page_core_streams.specs.laws.Views.{state_of}
 use Rattle.page_core_streams.specs.declared.text_rows.TextRows.{TextRows}
 use Rattle.page_core_streams.specs.declared.text_notes.TextNotes.{TextNotes}
-use Rattle.page_engine.specs.Runs.{RunsOver, Sinks, sinks, WritesRows, WritesRowsInto, WritesNotes, WritesNotesInto}
+use Rattle.page_engine.specs.Runs.{RunsOver, Sinks, writers}
 use Rattle.page_core_streams.proofs.FailureLemmas.{count_true, state_true}
 use Rattle.page_engine.proofs.Causes.{caused_on}
 use Rattle.page_engine.proofs.runs.run_page.Goals as goal
@@ -20,8 +20,7 @@ returns-clause-causes g c = λ i w v.
     let res = c.run_sinks.result in
     let out = g.W.Target in
     let err = g.V.Target in
-    let k : Sinks g.row.W.Denot g.row.V.Denot = sinks (WritesRows out.contents) (WritesRowsInto out.contents) out.failures
-    (WritesNotes err.contents file) (WritesNotesInto err.contents file) err.failures in
+    let k : Sinks g.row.W.Denot g.row.V.Denot = record { to = writers out.contents err.contents file; rows_failed = out.failures; notes_failed = err.failures } in
     let f : TextRows g.row.W.Denot → g.row.W.Denot = λ x. x.out.now in
     let n : TextNotes g.row.V.Denot → g.row.V.Denot = λ x. x.out.now in
     let P : TextNotes g.row.V.Denot → Type 0 = λ x. x.file.now ≡ file in

@@ -2,7 +2,7 @@ use Rattle.std.proofs.Common.{[], ap, ◌∙◌}
 use Rattle.std.proofs.lemmas.Result.{err_from_is_err_and}
 use Rattle.page_roff_lines.specs.laws.Cutting.{Point, last_line}
 use Rattle.page_engine.specs.Edges.{start}
-use Rattle.page_engine.specs.Runs.{sinks}
+use Rattle.page_engine.specs.laws.Views.{sinks}
 use Rattle.page_engine.proofs.LineCounts.{first_none}
 use Rattle.page_engine.proofs.WholeRuns.{runs_not_begun, runs_stopped, runs_well}
 use Rattle.page_engine.proofs.runs.run_sinks.Goals as goal

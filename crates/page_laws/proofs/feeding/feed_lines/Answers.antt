@@ -1,7 +1,7 @@
 use Rattle.std.proofs.Common.{[], refl, ◌∙◌, take}
 use Rattle.std.proofs.lemmas.Result.{err_from_is_err_and}
 use Rattle.page_engine.specs.Page.{edge}
-use Rattle.page_engine.specs.Runs.{sinks}
+use Rattle.page_engine.specs.laws.Views.{sinks}
 use Rattle.page_laws.specs.declared.feeding.Numbered.{Numbered}
 use Rattle.page_laws.specs.Fed.{lines_given}
 use Rattle.page_laws.proofs.FeedLemmas.{none_fed, one_fed, takes_one, part_fed}

@@ -1,7 +1,7 @@
 use Rattle.std.proofs.Common.{◌≡◌, take}
 use Rattle.page_engine.specs.Edges.{Edge}
 use Rattle.page_engine.specs.laws.States.{IsOpenAt}
-use Rattle.page_engine.specs.Runs.{sinks}
+use Rattle.page_engine.specs.laws.Views.{sinks}
 use Rattle.page_laws.specs.Fed.{lines_given}
 use Rattle.page_laws.proofs.FeedLemmas.{HasFed}
 use Rattle.page_laws.proofs.feeding.feed_lines.Given as goal

@@ -1,4 +1,4 @@
-use Rattle.page_engine.specs.Runs.{sinks}
+use Rattle.page_engine.specs.laws.Views.{sinks}
 use Rattle.page_engine.proofs.WholeRuns.{finished_out}
 use Rattle.page_engine.proofs.runs.Run.finish.Goals as goal
 

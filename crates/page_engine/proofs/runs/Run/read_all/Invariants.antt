@@ -1,6 +1,6 @@
 use Rattle.std.proofs.Common.{◌≡◌, ℕ, List}
 use Rattle.page_core_streams.specs.laws.Views.{AreRead}
-use Rattle.page_engine.specs.Runs.{sinks}
+use Rattle.page_engine.specs.laws.Views.{sinks}
 use Rattle.page_engine.specs.machine.Steps.{Through}
 use Rattle.page_engine.proofs.runs.Run.read_all.Given as goal
 

@@ -1,5 +1,5 @@
 use Rattle.std.proofs.Common.{◌≡◌, ◌++◌, ℕ, List, length}
-use Rattle.page_engine.specs.Runs.{sinks}
+use Rattle.page_engine.specs.laws.Views.{sinks}
 use Rattle.page_engine.specs.machine.Steps.{Through}
 use Rattle.page_engine.proofs.runs.Run.take_chunk.Given as goal
 
