@@ -71,9 +71,9 @@ class Pages:
         file = values.onto(name.encode(), None)
         rows = [bytes(values.items(self.row_bytes(row))) for row in values.items(laid.of_rows)]
         messages = [bytes(values.items(self.message_bytes(file, note))) for note in values.items(laid.of_notes)]
-        worst, counts = laid.of_edge.of_worst, laid.of_edge.of_roff.of_counts
+        worst, roff = laid.of_edge.of_worst, laid.of_edge.of_lines.of_roff
         self.program.forget_many(MOST)
         return Shown(
             b"".join(rows), b"".join(messages), worst.arguments[0].name if worst.arguments else None,
-            (counts.of_source, counts.of_taken, counts.of_expansions),
+            (roff.of_source, roff.of_taken, roff.of_memory.of_expansions),
         )

@@ -12,7 +12,7 @@ use Rattle.page_engine.specs.laws.Views.{FilterGave, FilterWithin, ShownGave, Sh
 use Rattle.page_engine.specs.Page.{is_silent, of_page}
 use Rattle.page_engine.specs.machine.PageSinks.{Passed, Broken, Ends, Quiet}
 use Rattle.page_engine.specs.machine.Layers.{IsAt}
-use Rattle.page_engine.specs.Edges.{Edge, lines_at}
+use Rattle.page_engine.specs.Edges.{Edge}
 
 -- what a call did that passes items on
 abbrev pub Passes : {T R S N : Type 0} → Result (Unit {0}) Fault → (R → List LaidRow → R → Type 0) → (R → List LaidRow → R → Type 0) → (T → ℕ) → (T → R) → (T → Bool)
@@ -38,7 +38,7 @@ pub passes_edge : {T R S N : Type 0} (rg rw_ : R → List LaidRow → R → Type
     (below : S → N) (least worst : S → Option Level) (res : Result (Unit {0}) Fault) (f f' : Option FillEdge) (t t' : T) (s s' : S) (l : FillEdge → Laid FillEdge) (e next : Edge)
     (lines : LinesEdge) (output : Output) (kept : Option Level) (last : Option ℕ)
     → f ≡ Some e.fill → least s ≡ e.least → worst s ≡ e.worst → Passes res rg rw_ rf under silent ng nw nf below least worst f f' t t' s s' l
-    → lines ≡ lines_at (of_page e next (l e.fill)).edge → output ≡ (l e.fill).edge.output → kept ≡ next.least → last ≡ next.last
+    → lines ≡ next.lines → output ≡ (l e.fill).edge.output → kept ≡ next.least → last ≡ next.last
     → OnOk res (IsAt (record { filler = f'; lines = lines; output = output; least = kept; worst = worst s'; last = last }) (of_page e next (l e.fill)).edge)
 passes_edge rg rw_ rf under silent ng nw nf below least worst (Ok x) f f' t t' s s' l e next lines output kept last q k w h a o b c =
     let p = h.0 e.fill q in record { filled = p.filler; lines = a; output = o; levels = b; worst_level = rw (k, w) at p.notes.2; last_line = c }

@@ -1,6 +1,5 @@
 pub mod Items
 pub mod Fixed
-pub mod LayerEdges
 pub mod Feeds
 pub mod Cuts
 pub mod Phases

@@ -28,18 +28,20 @@ targets_most (scope ∷ scopes) h = omega (arith, sum_by-cons target_bytes scope
 
 pub texts_most : (e : Edge) → IsWithin e → text_bytes e ≤ 100224
 texts_most e h =
-    let d = e.roff.definitions in
-    let fields = e.body.fields in
+    let roff = e.lines.roff in
+    let lines = e.lines.body in
+    let d = roff.memory.definitions in
+    let fields = lines.header.fields in
     let names : size d.texts + size d.registers ≤ 65536 = h.roff.memory.names.bytes in
-    let region : bytes_in e.roff.place.region (λ region. bytes_in region.name length + length region.ending) ≤ 128 =
-    in_most e.roff.place.region _ (λ region. bytes_in region.name length + length region.ending) 128
+    let region : bytes_in roff.place.region (λ region. bytes_in region.name length + length region.ending) ≤ 128 =
+    in_most roff.place.region _ (λ region. bytes_in region.name length + length region.ending) 128
     (λ region fits. omega (arith, text_most region.name 64 fits.name, fits.ending)) h.roff.place.region in
-    let body : bytes_in e.roff.body length ≤ 16384 = text_most e.roff.body 16384 h.roff.memory.body in
-    let targets = targets_most e.body.scopes h.body.scopes.targets in
-    let depth : length e.body.scopes ≤ 64 = h.body.scopes.depth in
-    let manual : bytes_in e.body.name (λ name. length name.text) ≤ 256 =
-    in_most e.body.name (λ name. length name.text ≤ 256) (λ name. length name.text) 256 (λ name fits. fits) h.body.scopes.name in
-    let os : length e.os ≤ 256 = h.body.os in
+    let body : bytes_in roff.memory.body length ≤ 16384 = text_most roff.memory.body 16384 h.roff.memory.body in
+    let targets = targets_most lines.scopes.scopes h.body.scopes.targets in
+    let depth : length lines.scopes.scopes ≤ 64 = h.body.scopes.depth in
+    let manual : bytes_in lines.scopes.state.name (λ name. length name.text) ≤ 256 =
+    in_most lines.scopes.state.name (λ name. length name.text ≤ 256) (λ name. length name.text) 256 (λ name fits. fits) h.body.scopes.name in
+    let os : length lines.header.os ≤ 256 = h.body.os in
     let title : length fields.title ≤ 256 = h.body.fields.title in
     let section : length fields.section ≤ 256 = h.body.fields.section in
     let date : length fields.date ≤ 256 = h.body.fields.date in

@@ -21,10 +21,9 @@ use Rattle.page_engine_lines.specs.machine.Lines.{source_items, source_after, en
 use Rattle.page_engine_lines.proofs.TreeLemmas.{lines_items-append, lines_after-append, one_items, one_after, no_items, none_after, end_items_after}
 use Rattle.page_engine.specs.Page.{reported, worst_of, of_page, raw, raw_lines, last_number, after, settled, edge, page, footer_laid}
 use Rattle.page_engine.specs.laws.Views.{reported-append, worst_of-append, IsReached, counts_at, text_line, shown_rows-append, shown_rows-nil}
-use Rattle.page_engine.specs.Edges.{Edge, last_line, lines_at, moved, start}
+use Rattle.page_engine.specs.Edges.{Edge, last_line, start}
 use Rattle.page_engine.specs.machine.ByLine as by_line
 use Rattle.page_engine.proofs.Fixed.{filled_fixed}
-use Rattle.page_engine.proofs.LayerEdges.{lines_after_at, lines_at_edge, output_kept}
 
 -- ---- one thing after another, by levels
 
@@ -32,12 +31,14 @@ of_page-join : (e f g : Edge) (a b : Laid FillEdge) → a.edge.output ≡ e.fill
     → of_page e g (join a b) ≡ join (of_page e f a) (of_page (of_page e f a).edge g b)
 of_page-join e f g a b o h = rw (o, h, shown_rows-append, reported-append, worst_of-append) refl
 
--- of the edge beside the open row and the worst level, six fields count
-of_page-same : (e f g : Edge) (l : Laid FillEdge) → f.least ≡ g.least → f.indent ≡ g.indent → f.os ≡ g.os → f.last ≡ g.last → f.roff ≡ g.roff → f.body ≡ g.body
-    → of_page e f l ≡ of_page e g l
-of_page-same e f g l least indent os last roff body = rw (least, indent, os, last, roff, body) refl
+-- of the edge beside the open row and the worst level, three fields count
+of_page-same : (e f g : Edge) (l : Laid FillEdge) → f.least ≡ g.least → f.last ≡ g.last → f.lines ≡ g.lines → of_page e f l ≡ of_page e g l
+of_page-same e f g l least last lines = rw (least, last, lines) refl
 
 -- where lines move it to
+abbrev moved : Edge → LinesEdge → Option ℕ → Edge
+moved e lines last = record e { last = last; lines = lines }
+
 of_page-moved : (e f : Edge) (n m : Option ℕ) (a b : LinesEdge) (l : Laid FillEdge) → n ≡ m → a ≡ b → of_page e (moved f a n) l ≡ of_page e (moved f b m) l
 of_page-moved e f n m a b l h g = rw (h, g) refl
 
@@ -61,43 +62,45 @@ items-append e xs ys = ap (λ (l : List SourceLine). lines_items e l) (map-appen
 -- ---- the edges that a page comes to
 
 pub start_reached : (s : Settings) → IsReached (start s)
-start_reached s = record { row = fresh-held s.width; word = refl }
+start_reached s = record { row = fresh-held s.width; word = refl; line = refl }
 
 pub reached : (e : Edge) (lines : List Line) → IsReached e → IsReached (edge e lines)
 unfolding settled
 reached e lines r =
-    let h = held-law e.fill (lines_items (lines_at e) (raw_lines lines)) r.row r.word in
-    record { row = h.0; word = h.1 }
+    let h = held-law e.fill (lines_items e.lines (raw_lines lines)) r.row r.word in
+    record { row = h.0; word = h.1; line = refl }
+
+-- in them roff and the body are where the lines leave these
+pub lines_edge : (e : Edge) (lines : List Line) → (edge e lines).lines ≡ lines_after e.lines (raw_lines lines)
+unfolding settled
+lines_edge e lines = refl
 
 -- ---- what lines settle
 
 pub settled_none : (e : Edge) → IsReached e → settled e [] ≡ nothing e
 unfolding settled laid_items
 settled_none e r =
-    let none : filled e.fill (lines_items (lines_at e) []) ≡ nothing e.fill =
-    ap (λ (l : List Item). filled e.fill l) (no_items (lines_at e)) ∙ sym (items-law e.fill [] r.row r.word) in
+    let none : filled e.fill (lines_items e.lines []) ≡ nothing e.fill =
+    ap (λ (l : List Item). filled e.fill l) (no_items e.lines) ∙ sym (items-law e.fill [] r.row r.word) in
     ap (λ (l : Laid FillEdge). of_page e (after e []) l) none
-    ∙ of_page-moved e e e.last e.last _ (lines_at e) (nothing e.fill) refl (none_after (lines_at e) refl)
+    ∙ of_page-moved e e e.last e.last _ e.lines (nothing e.fill) refl (none_after e.lines r.line)
     ∙ no_messages e
 
 pub settled-append : (e : Edge) (xs ys : List Line) → IsReached e → settled e (xs ++ ys) ≡ join (settled e xs) (settled (edge e xs) ys)
 unfolding settled
 settled-append e xs ys r =
-    let lines = lines_at e in
+    let lines = e.lines in
     let above = lines_items lines (raw_lines xs) in
     let next = lines_after lines (raw_lines xs) in
     let below = lines_items next (raw_lines ys) in
     let a = filled e.fill above in
     let b = filled a.edge below in
     let f = edge e xs in
-    let at = lines_at_edge e xs in
     ap (λ (l : List Item). of_page e (after e (xs ++ ys)) (filled e.fill l)) (items-append lines xs ys)
     ∙ ap (λ (l : Laid FillEdge). of_page e (after e (xs ++ ys)) l) (cut-law e.fill above below r.row r.word)
-    ∙ of_page-join e (after e xs) (after e (xs ++ ys)) a b (output_kept a.edge e.fill (filled_fixed e.fill above)) refl
+    ∙ of_page-join e (after e xs) (after e (xs ++ ys)) a b (filled_fixed e.fill above) refl
     ∙ ap (λ (l : Laid Edge). join (of_page e (after e xs) a) l)
-    (of_page-moved f f _ _ (lines_after lines (raw_lines (xs ++ ys))) (lines_after (lines_at f) (raw_lines ys)) b (last_number-append e.last xs ys)
-    (after-append lines xs ys ∙ ap (λ (l : LinesEdge). lines_after l (raw_lines ys)) (sym at))
-    ∙ ap (λ (l : LinesEdge). of_page f (after f ys) (filled a.edge (lines_items l (raw_lines ys)))) (sym at))
+    (of_page-moved f f _ _ (lines_after lines (raw_lines (xs ++ ys))) (lines_after next (raw_lines ys)) b (last_number-append e.last xs ys) (after-append lines xs ys))
 
 -- ---- one line
 
@@ -109,7 +112,7 @@ told_notes f (m ∷ notes) = ap (λ (l : Laid FillEdge). record { rows = l.rows;
 pub one_line : (e : Edge) (line : Line) → IsReached e → settled e (line ∷ []) ≡ by_line.settled_line e line
 unfolding settled by_line.settled_text
 one_line e line r =
-    let lines = lines_at e in
+    let lines = e.lines in
     let items = source_items lines line.number line.text in
     let notes : Laid FillEdge = record { rows = []; notes = line.notes; edge = e.fill } in
     let laid = laid_items e.fill items in
@@ -121,7 +124,7 @@ one_line e line r =
     ∙ ap (λ (l : Laid FillEdge). of_page e all (join l (laid_items l.edge items))) (told_notes e.fill line.notes)
     ∙ of_page-join e e all notes laid refl refl
     ∙ ap (λ (l : Laid Edge). join (of_page e e notes) l)
-    (of_page-moved f f _ _ (lines_after lines (raw line ∷ [])) (source_after lines line.number line.text) laid refl (one_after lines line.number line.text line.notes refl))
+    (of_page-moved f f _ _ (lines_after lines (raw line ∷ [])) (source_after lines line.number line.text) laid refl (one_after lines line.number line.text line.notes r.line))
 
 pub line_reached : (e : Edge) (line : Line) → IsReached e → IsReached (by_line.settled_line e line).edge
 line_reached e line r = subst (λ (l : Laid Edge). IsReached l.edge) (one_line e line r) (reached e (line ∷ []) r)
@@ -149,11 +152,7 @@ by_lines e (line ∷ lines) r =
 
 -- from an edge
 end_laid : Edge → Laid FillEdge
-end_laid e = seq (filled e.fill (end_items (lines_at e) (last_line e))) (λ h. footer_laid e h)
-
--- the footer, by what decides it
-abbrev footer_from : LinesEdge → ℕ → FillEdge → Laid FillEdge
-footer_from l n h = seq (filled h (footer_items l n (fill.blank_rows_at_end h))) row_end
+end_laid e = seq (filled e.fill (end_items e.lines (last_line e))) (λ h. footer_laid e h)
 
 end_of : Edge → Laid Edge
 end_of e = of_page e e (end_laid e)
@@ -165,19 +164,16 @@ page_is e lines r =
     let f = after e lines in
     let g = edge e lines in
     let n = last_line f in
-    let above = lines_items (lines_at e) (raw_lines lines) in
-    let end = end_items (lines_at g) n in
+    let above = lines_items e.lines (raw_lines lines) in
+    let end = end_items g.lines n in
     let a = filled e.fill above in
     let z = filled a.edge end in
     let w = footer_laid g z.edge in
-    let at = lines_at_edge e lines in
-    ap (λ (l : List Item). of_page e f (seq (filled e.fill l) (λ h. footer_laid f h)))
-    (end_items_after (lines_at e) (raw_lines lines) n ∙ ap (λ (l : LinesEdge). above ++ end_items l n) (sym at))
-    ∙ ap (λ (l : LinesEdge). of_page e f (seq (filled e.fill (above ++ end)) (λ h. footer_from l n h))) (lines_after_at e lines ∙ sym at)
+    ap (λ (l : List Item). of_page e f (seq (filled e.fill l) (λ h. footer_laid f h))) (end_items_after e.lines (raw_lines lines) n)
     ∙ ap (λ (l : Laid FillEdge). of_page e f (seq l (λ h. footer_laid g h))) (cut-law e.fill above end r.row r.word)
     ∙ ap (λ (l : Laid FillEdge). of_page e f l) (join_assoc a z w)
-    ∙ of_page-join e f f a (join z w) (output_kept a.edge e.fill (filled_fixed e.fill above)) refl
-    ∙ ap (λ (l : Laid Edge). join (of_page e f a) l) (of_page-same g f g (join z w) refl refl refl refl refl refl)
+    ∙ of_page-join e f f a (join z w) (filled_fixed e.fill above) refl
+    ∙ ap (λ (l : Laid Edge). join (of_page e f a) l) (of_page-same g f g (join z w) refl refl refl)
 
 pub page-append : (e : Edge) (xs ys : List Line) → IsReached e → page e (xs ++ ys) ≡ join (settled e xs) (page (edge e xs) ys)
 page-append e xs ys r =
@@ -194,10 +190,10 @@ page_end e lines r = ap (page e) (sym (append-nil lines)) ∙ page-append e line
 end_by_line : (e : Edge) → IsReached e → end_of e ≡ by_line.ended e
 unfolding end_of end_laid by_line.ended
 end_by_line e r =
-    let end = end_items (lines_at e) (last_line e) in
+    let end = end_items e.lines (last_line e) in
     let a = filled e.fill end in
     let held = held-law e.fill end r.row r.word in
-    let footer = footer_items (lines_at e) (last_line e) (fill.blank_rows_at_end a.edge) in
+    let footer = footer_items e.lines (last_line e) (fill.blank_rows_at_end a.edge) in
     let rows : footer_laid e a.edge ≡ by_line.footer_laid e a.edge =
     ap (λ (l : Laid FillEdge). seq l row_end) (sym (items-law a.edge footer held.0 held.1)) in
     ap (λ (l : Laid FillEdge). of_page e e (join a l)) rows

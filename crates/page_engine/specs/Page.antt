@@ -11,7 +11,7 @@ use Rattle.page_fill.specs.Filling.{filled, row_end}
 use Rattle.page_fill.specs.declared.edges.FillEdge.{FillEdge}
 use Rattle.page_engine_lines.specs.Acts.{raw_line, lines_after, lines_items, page_items}
 use Rattle.page_engine_lines.specs.Edges.{footer_items}
-use Rattle.page_engine.specs.Edges.{Edge, lines_at, moved, last_line}
+use Rattle.page_engine.specs.Edges.{Edge, last_line}
 
 -- ---- Rows that are given or not. Source: mandoc(1), -T lint.
 
@@ -68,11 +68,11 @@ last_number number lines = fold (λ last (line : Line). Some line.number) number
 
 -- where the forest of lines and the block tree of their acts leave a page
 abbrev pub after : Edge → List Line → Edge
-after e lines = moved e (lines_after (lines_at e) (raw_lines lines)) (last_number e.last lines)
+after e lines = record e { last = last_number e.last lines; lines = lines_after e.lines (raw_lines lines) }
 
 -- the rows and messages that lines settle, and the edge from which the rest goes on: the pieces of the block tree of all that roff gives, filled
 unfoldable pub settled : Edge → List Line → Laid Edge
-settled e lines = of_page e (after e lines) (filled e.fill (lines_items (lines_at e) (raw_lines lines)))
+settled e lines = of_page e (after e lines) (filled e.fill (lines_items e.lines (raw_lines lines)))
 
 abbrev pub edge : Edge → List Line → Edge
 edge e lines = (settled e lines).edge
@@ -81,11 +81,11 @@ edge e lines = (settled e lines).edge
 
 -- the footer after a blank row, unless one is there, and the end of the row
 abbrev pub footer_laid : Edge → FillEdge → Laid FillEdge
-footer_laid e f = seq (filled f (footer_items (lines_at e) (last_line e) f.sheet.blank_rows)) row_end
+footer_laid e f = seq (filled f (footer_items e.lines (last_line e) f.sheet.blank_rows)) row_end
 
 -- a page from an edge, to its end: its rows and messages, and at its last edge the worst level and the counts. The pieces and messages are those of the
 -- lines and of the page's end after them: what roff left open, a missing header, the end of all scopes.
 unfoldable pub page : Edge → List Line → Laid Edge
 page e lines =
     let f = after e lines in
-    of_page e f (seq (filled e.fill (page_items (lines_at e) (raw_lines lines) (last_line f))) (λ h. footer_laid f h))
+    of_page e f (seq (filled e.fill (page_items e.lines (raw_lines lines) (last_line f))) (λ h. footer_laid f h))

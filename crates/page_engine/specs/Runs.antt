@@ -9,6 +9,7 @@ use Rattle.page_core_base.specs.declared.faults.Fault.TheVariants.{Memory, Read,
 use Rattle.page_core_base.specs.declared.page_settings.Settings.{Settings as PageSettings}
 use Rattle.page_core_streams.specs.Streams.{Grows, row_bytes, GrowsInto, message_bytes, SourceState, IsTooLong, HasGiven, IsLean}
 use Rattle.page_roff_lines.specs.Lines.{lines, whole_lines, lines_made, line_left}
+use Rattle.page_roff_source.specs.Runs.{counts_of}
 use Rattle.page_engine.specs.Edges.{Edge, start}
 use Rattle.page_engine.specs.Page.{page, settled}
 use Rattle.page_engine.specs.declared.runs.Outcome.{Outcome}
@@ -62,7 +63,7 @@ pub record Whole (came : Laid Edge → Type 0) (settings : PageSettings) (bytes 
   pub gave : came (whole_page settings bytes)
   pub worst : outcome.worst ≡ (whole_page settings bytes).edge.worst
   pub source : outcome.counts.source ≡ length (lines settings.encoding bytes)
-  pub counts : outcome.counts ≡ (whole_page settings bytes).edge.roff.counts
+  pub counts : outcome.counts ≡ counts_of (whole_page settings bytes).edge.lines.roff
   pub good : IsGood settings
   pub all : IsAtEnd after
 

@@ -7,20 +7,17 @@ ghost use Rattle.page_roff_lines.specs.Lines.{Line};
 ghost use Rattle.page_roff_source.specs.laws.Views.{EachIsWithin};
 ghost use Rattle.page_core_base.specs.declared.limits.TheConstants.{EXPAND, REREAD};
 ghost use Rattle.page_engine_lines.specs.Acts.{lines_after};
-ghost use Rattle.page_engine_lines.specs.Edges.{start_of};
 ghost use Rattle.page_engine.specs.machine.ByLine as by_line;
-ghost use Rattle.page_engine.specs.Edges.{lines_at, roff_at, Edge, start};
+ghost use Rattle.page_engine.specs.Edges.{Edge, start};
 ghost use Rattle.page_engine.specs.laws.Views.{IsReached, counts_at};
 ghost use Rattle.page_engine.specs.Page.{settled, edge, page, raw_lines};
 ghost use Rattle.page_engine.specs.laws.Within.{IsWithin, text_bytes};
 
-/// The edges that a page comes to: the one of its start, and from each such edge the one that lines leave. What the layers share is in it once, and
-/// nothing is lost by that: the edges that it makes for roff and the body are those that the lines leave there.
+/// The edges that a page comes to: the one of its start, and from each such edge the one that lines leave.
 pub fn reached_law()
     ensures start { (s : Settings) → IsReached (start s) }
     ensures lines { (e : Edge) (lines : List Line) → IsReached e → IsReached (edge e lines) }
-    ensures layers { (s : Settings) → lines_at (start s) ≡ start_of s }
-    ensures layers_after { (e : Edge) (lines : List Line) → lines_at (edge e lines) ≡ lines_after (lines_at e) (raw_lines lines) }
+    ensures layers_after { (e : Edge) (lines : List Line) → (edge e lines).lines ≡ lines_after e.lines (raw_lines lines) }
 {}
 
 /// A page may be cut between any two lines: it is what the lines above settle, and then the page of the lines below,
@@ -49,7 +46,7 @@ pub fn count_law()
     ensures expansions { (e : Edge) (lines : List Line)
         → (counts_at (edge e lines)).expansions + EXPAND * (counts_at e).taken
         ≤ EXPAND * (counts_at (edge e lines)).taken + (counts_at e).expansions }
-    ensures each { (e : Edge) → EachIsWithin (roff_at e) }
+    ensures each { (e : Edge) → EachIsWithin e.lines.roff }
     ensures end { (e : Edge) (lines : List Line) → counts_at (page e lines).edge ≡ counts_at (edge e lines) }
 {}
 

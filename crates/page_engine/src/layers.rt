@@ -9,7 +9,7 @@ ghost use Rattle.page_fill.specs.declared.edges.FillEdge.{FillEdge};
 ghost use Rattle.page_engine.specs.machine.Layers.{IsAt};
 ghost use Rattle.page_engine.specs.laws.Within.{IsWithin};
 ghost use Rattle.page_engine.specs.machine.ByLine.{settled_text, settled_line, ended, end_laid};
-ghost use Rattle.page_engine.specs.Edges.{Edge, last_line, lines_at, start};
+ghost use Rattle.page_engine.specs.Edges.{Edge, last_line, start};
 ghost use Rattle.page_engine.specs.laws.Views.{IsReached};
 ghost use Rattle.page_engine.specs.machine.PageSinks.{Ends};
 
@@ -65,7 +65,7 @@ impl<R: RowSink, N: NoteSink> PageSink<'_, '_, '_, R, N> {
     // Ends the body after a line, gives the footer, and ends the filling.
     fn end(&mut self, lines: &mut PageLines, last: u32) -> Result<(), Fault>
         ensures ends { (f : FillEdge) (e : Edge) → self.old.filler.now ≡ Some f → f ≡ e.fill
-            → lines.old ≡ lines_at e → last ≡ last_line e →
+            → lines.old ≡ e.lines → last ≡ last_line e →
             Ends result ⟦<Shown<'static, R> as RowSink>⟧.gave ⟦<Shown<'static, R> as RowSink>⟧.within
             ⟦<Shown<'static, R> as RowSink>⟧.failed ⟦<LevelFilter<'static, N> as NoteSink>⟧.gave
             ⟦<LevelFilter<'static, N> as NoteSink>⟧.within ⟦<LevelFilter<'static, N> as NoteSink>⟧.failed

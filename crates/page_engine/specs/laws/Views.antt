@@ -1,7 +1,7 @@
 -- What contracts of the code say by the definitions, and what is proved of these.
 use Rattle.std.proofs.Common.{◌∙◌}
 use Rattle.std.proofs.lemmas.List.Elements.{filter-append}
-use Rattle.std.specs.Prelude.{◌≡◌, true, Bool, List, ◌++◌, refl, false, [], Option, ◌∷◌, ℕ, ◌<◌, ◌-◌, ◌^◌, length, take, Some, Result, MatchResult}
+use Rattle.std.specs.Prelude.{◌≡◌, true, Bool, List, ◌++◌, refl, false, [], Option, None, ◌∷◌, ℕ, ◌<◌, ◌-◌, ◌^◌, length, take, Some, Result, MatchResult}
 use Rattle.page_core_base.specs.Messages.{Message, level_of, IsSinkFault}
 use Rattle.page_core_base.specs.Rows.{LaidRow, Laid, nothing}
 use Rattle.page_core_base.specs.Settings.{IsGood, IsFirst}
@@ -11,6 +11,7 @@ use Rattle.page_core_base.specs.declared.faults.Fault.TheVariants.{Memory, Write
 use Rattle.page_core_base.specs.declared.note_kinds.Level.{Level}
 use Rattle.page_core_base.specs.declared.page_settings.Settings.{Settings as PageSettings}
 use Rattle.page_roff_lines.specs.Lines.{Line}
+use Rattle.page_roff_source.specs.Runs.{counts_of}
 use Rattle.page_roff_source.specs.declared.counts.Counts.{Counts}
 use Rattle.page_fill_rows.specs.laws.Views.{IsHeld}
 use Rattle.page_fill.specs.laws.Views.{is_sound}
@@ -21,12 +22,13 @@ use Rattle.page_engine.specs.declared.runs.Outcome.{Outcome}
 
 -- source lines, lines taken of them, and interpolations
 abbrev pub counts_at : Edge → Counts
-counts_at e = e.roff.counts
+counts_at e = counts_of e.lines.roff
 
--- what holds at each edge that a page comes to: the open row and the open word hold together
+-- what holds at each edge that a page comes to: the open row and the open word hold together, and nothing of a line is still to come
 pub record IsReached (e : Edge) : Type 0 where
   pub row : IsHeld e.fill.sheet
   pub word : is_sound e.fill.word ≡ true
+  pub line : e.lines.roff.to_come ≡ None
 
 pub shown_rows-append : (silent : Bool) (xs ys : List LaidRow)
     → shown_rows silent (xs ++ ys) ≡ shown_rows silent xs ++ shown_rows silent ys

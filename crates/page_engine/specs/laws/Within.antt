@@ -8,14 +8,14 @@ use Rattle.page_scopes.specs.declared.layouts.Kept.{Kept}
 use Rattle.page_fill_rows.specs.laws.Views.{IsHeld}
 use Rattle.page_fill.specs.laws.Views.{FillFits, is_sound}
 use Rattle.page_engine_lines.specs.laws.Views.{BodyFits}
-use Rattle.page_engine.specs.Edges.{Edge, lines_at}
+use Rattle.page_engine.specs.Edges.{Edge}
 use Rattle.page_engine.specs.laws.States.{PageState}
 
 pub record IsWithin (e : Edge) : Type 0 where
   -- names and what they stand for, an open region, and open blocks
-  pub roff : RoffFits (lines_at e).roff
+  pub roff : RoffFits e.lines.roff
   -- the fields of header and footer, the name of the system, and the open scopes with the targets of links, the widths of lists, and the manual's name
-  pub body : BodyFits (lines_at e).body
+  pub body : BodyFits e.lines.body
   -- the cells of the open row, the columns of an open tag, and the blank rows at the end
   pub fill : FillFits e.fill
   -- the places of the row's last word lie within the row; what waits before the next word holds together
@@ -41,12 +41,14 @@ target_bytes scope = bytes_in scope.before.target (λ target. length target.text
 -- open, and of the manual's name; of the fields of header and footer, and of the system's name
 abbrev pub text_bytes : Edge → ℕ
 text_bytes e =
-    let names = e.roff.definitions in
-    let fields = e.body.fields in
+    let roff = e.lines.roff in
+    let body = e.lines.body in
+    let names = roff.memory.definitions in
+    let fields = body.header.fields in
     (size names.texts + size names.registers)
-    + (bytes_in e.roff.place.region (λ region. bytes_in region.name length + length region.ending)
-    + bytes_in e.roff.body length)
-    + (sum_by target_bytes e.body.scopes
-    + bytes_in e.body.name (λ name. length name.text))
+    + (bytes_in roff.place.region (λ region. bytes_in region.name length + length region.ending)
+    + bytes_in roff.memory.body length)
+    + (sum_by target_bytes body.scopes.scopes
+    + bytes_in body.scopes.state.name (λ name. length name.text))
     + (length fields.title + length fields.section + length fields.date + length fields.source
-    + length fields.volume + length e.os)
+    + length fields.volume + length body.header.os)

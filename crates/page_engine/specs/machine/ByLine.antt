@@ -10,7 +10,7 @@ use Rattle.page_fill.specs.Filling.{row_end}
 use Rattle.page_fill.specs.laws.Views as fill
 use Rattle.page_fill.specs.declared.edges.FillEdge.{FillEdge}
 use Rattle.page_roff_lines.specs.Lines.{Line}
-use Rattle.page_engine.specs.Edges.{Edge, last_line, lines_at, moved}
+use Rattle.page_engine.specs.Edges.{Edge, last_line}
 use Rattle.page_engine.specs.Page.{of_page}
 
 -- ---- lines
@@ -21,11 +21,11 @@ laid_notes e messages = of_page e e (record { rows = []; notes = messages; edge 
 
 -- the text of a line: roff and the macros make items of it, and these are filled
 abbrev pub passed : Edge → List ℕ → ℕ → Edge
-passed e text number = moved e (source_after (lines_at e) number text) (Some number)
+passed e text number = record e { last = Some number; lines = source_after e.lines number text }
 
 unfoldable pub settled_text : Edge → List ℕ → ℕ → Laid Edge
 settled_text e text number =
-    of_page e (passed e text number) (laid_items e.fill (source_items (lines_at e) number text))
+    of_page e (passed e text number) (laid_items e.fill (source_items e.lines number text))
 
 abbrev pub settled_line : Edge → Line → Laid Edge
 settled_line e line = seq (laid_notes e line.notes) (λ f. settled_text f line.text line.number)
@@ -39,10 +39,10 @@ settled e (line ∷ lines) = seq (settled_line e line) (λ f. settled f lines)
 -- what roff left open, the body's end, the footer, and the end of filling
 abbrev pub footer_laid : Edge → FillEdge → Laid FillEdge
 footer_laid e f =
-    seq (laid_items f (footer_items (lines_at e) (last_line e) (fill.blank_rows_at_end f))) row_end
+    seq (laid_items f (footer_items e.lines (last_line e) (fill.blank_rows_at_end f))) row_end
 
 abbrev pub end_laid : Edge → Laid FillEdge
-end_laid e = seq (laid_items e.fill (end_items (lines_at e) (last_line e))) (λ f. footer_laid e f)
+end_laid e = seq (laid_items e.fill (end_items e.lines (last_line e))) (λ f. footer_laid e f)
 
 unfoldable pub ended : Edge → Laid Edge
 ended e = of_page e e (end_laid e)

@@ -5,14 +5,14 @@ use Rattle.page_roff_source.specs.declared.counts.Counts.{Counts}
 use Rattle.page_engine.specs.declared.layers.Layers.{Layers}
 use Rattle.page_engine.specs.declared.pages.Phase.{Phase}
 use Rattle.page_engine.specs.declared.pages.Phase.TheVariants.{Open}
-use Rattle.page_engine.specs.Edges.{Edge, lines_at, roff_part, body_part}
+use Rattle.page_engine.specs.Edges.{Edge}
 use Rattle.page_engine.specs.laws.Views.{IsReached}
 use Rattle.page_fill.specs.declared.edges.FillEdge.{FillEdge}
 
 -- the layers are at an edge
 pub record IsAt (here : Layers) (e : Edge) : Type 0 where
   pub filled : here.filler ≡ Some e.fill
-  pub lines : here.lines ≡ lines_at e
+  pub lines : here.lines ≡ e.lines
   pub output : here.output ≡ e.fill.output
   pub levels : here.least ≡ e.least
   pub worst_level : here.worst ≡ e.worst
@@ -20,17 +20,7 @@ pub record IsAt (here : Layers) (e : Edge) : Type 0 where
 
 abbrev pub with_fill : Layers → Option FillEdge → Option Edge
 with_fill p None = None
-with_fill p (Some f) =
-    Some (record {
-      least = p.least;
-      indent = p.lines.body.header.indent;
-      os = p.lines.body.header.os;
-      worst = p.worst;
-      last = p.last;
-      roff = roff_part p.lines.roff;
-      body = body_part p.lines.body;
-      fill = f;
-    })
+with_fill p (Some f) = Some (record { least = p.least; worst = p.worst; last = p.last; lines = p.lines; fill = f })
 
 -- that edge, where the filler goes on
 abbrev pub edge_of : Layers → Option Edge

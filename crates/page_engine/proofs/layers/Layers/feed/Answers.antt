@@ -3,10 +3,8 @@ use Rattle.page_core_base.specs.laws.Views.{Gets, FailsBySink}
 use Rattle.page_engine_lines.specs.machine.Lines.{source_items}
 use Rattle.page_fill.specs.machine.ByPiece.{laid_items}
 use Rattle.page_engine.specs.machine.ByLine.{settled_text, passed}
-use Rattle.page_engine.specs.Edges.{lines_at}
 use Rattle.page_engine.specs.Page.{is_silent}
 use Rattle.page_engine.proofs.Fixed.{items_fixed}
-use Rattle.page_engine.proofs.LayerEdges.{output_kept, text_lines}
 use Rattle.page_engine.proofs.Feeds.{passes_gets, passes_edge, passes_faults}
 use Rattle.page_engine.proofs.layers.Layers.feed.Goals as goal
 
@@ -17,7 +15,7 @@ returns-clause-gets g c = λ e h.
     let y : Gets c.line-result.result g.R.RowSink.gave g.R.RowSink.within g.N.NoteSink.gave g.N.NoteSink.within c.args.rows.now c.line-result.new.out.rows.rows.now
     c.args.notes.now c.line-result.new.out.notes.notes.now (settled_text e c.args.text.now c.args.number) =
     passes_gets g.R.RowSink.gave g.R.RowSink.within (λ s. g.R.RowSink.failed s.rows.now) (λ s. s.rows.now) (λ s. s.is_silent) g.N.NoteSink.gave g.N.NoteSink.within (λ s. g.N.NoteSink.failed s.notes.now)
-    (λ s. s.notes.now) (λ s. s.least) (λ s. s.worst) c.line-result.result _ _ _ _ _ _ (λ f. laid_items f (source_items (lines_at e) c.args.number c.args.text.now))
+    (λ s. s.notes.now) (λ s. s.least) (λ s. s.worst) c.line-result.result _ _ _ _ _ _ (λ f. laid_items f (source_items e.lines c.args.number c.args.text.now))
     e (passed e c.args.text.now c.args.number) h.filled (c.is_silent.ensures ∙ ap is_silent h.output) h.levels x in
     search rules
 
@@ -27,7 +25,7 @@ returns-clause-faults g c = λ e h.
     let y : FailsBySink c.line-result.result (g.R.RowSink.failed c.args.rows.now) (g.R.RowSink.failed c.line-result.new.out.rows.rows.now)
     (g.N.NoteSink.failed c.args.notes.now) (g.N.NoteSink.failed c.line-result.new.out.notes.notes.now) =
     passes_faults g.R.RowSink.gave g.R.RowSink.within (λ s. g.R.RowSink.failed s.rows.now) (λ s. s.rows.now) (λ s. s.is_silent) g.N.NoteSink.gave g.N.NoteSink.within (λ s. g.N.NoteSink.failed s.notes.now)
-    (λ s. s.notes.now) (λ s. s.least) (λ s. s.worst) c.line-result.result _ _ _ _ _ _ (λ f. laid_items f (source_items (lines_at e) c.args.number c.args.text.now))
+    (λ s. s.notes.now) (λ s. s.least) (λ s. s.worst) c.line-result.result _ _ _ _ _ _ (λ f. laid_items f (source_items e.lines c.args.number c.args.text.now))
     e.fill h.filled x in
     search rules
 
@@ -36,8 +34,8 @@ unfolding settled_text
 returns-clause-edge g c = λ e h.
     let x = rw h.lines at c.line-result.ensures.gives in
     let y = rw h.lines at c.line-result.ensures.after in
-    let items = source_items (lines_at e) c.args.number c.args.text.now in
+    let items = source_items e.lines c.args.number c.args.text.now in
     passes_edge g.R.RowSink.gave g.R.RowSink.within (λ s. g.R.RowSink.failed s.rows.now) (λ s. s.rows.now) (λ s. s.is_silent) g.N.NoteSink.gave g.N.NoteSink.within (λ s. g.N.NoteSink.failed s.notes.now)
-    (λ s. s.notes.now) (λ s. s.least) (λ s. s.worst) c.line-result.result _ _ _ _ _ _ (λ f. laid_items f (source_items (lines_at e) c.args.number c.args.text.now))
-    e (passed e c.args.text.now c.args.number) _ _ _ _ h.filled h.levels h.worst_level x (y ∙ sym (text_lines e c.args.text.now c.args.number))
-    (h.output ∙ sym (output_kept (laid_items e.fill items).edge e.fill (items_fixed e.fill items))) h.levels refl
+    (λ s. s.notes.now) (λ s. s.least) (λ s. s.worst) c.line-result.result _ _ _ _ _ _ (λ f. laid_items f (source_items e.lines c.args.number c.args.text.now))
+    e (passed e c.args.text.now c.args.number) _ _ _ _ h.filled h.levels h.worst_level x y
+    (h.output ∙ sym (items_fixed e.fill items)) h.levels refl
