@@ -1,8 +1,7 @@
 -- The words of pieces are their marks, and so pieces fill rows as their words do.
 use Rattle.std.proofs.Common.{◌≡◌, ℕ, ◌==◌, Bool, true, false, not, ◌&&◌, ◌||◌, List, [], ◌∷◌, ◌++◌, length, map, replicate, inl, inr, refl, sym, subst, ap, ◌∙◌, append_assoc, arith}
-use Rattle.std.specs.Prelude.{fold, if◌then◌else◌}
+use Rattle.std.specs.Prelude.{if◌then◌else◌}
 use Rattle.std.proofs.lemmas.Bool.{cases_Bool, and_parts}
-use Rattle.std.proofs.lemmas.Bool.Decides.{nat_tests}
 use Rattle.std.proofs.lemmas.List.{map-append}
 use Rattle.page_core_base.specs.declared.cells.Cell.{Cell}
 use Rattle.page_core_base.specs.declared.cells.Font.{Font}
@@ -11,25 +10,23 @@ use Rattle.page_core_base.specs.declared.pieces.Piece.{Piece}
 use Rattle.page_core_base.specs.declared.pieces.Piece.TheVariants.{Text, Glyph, Char, Tab, Split}
 use Rattle.page_core_base.specs.declared.places.Place.{Place}
 use Rattle.page_core_base.specs.Messages.{Message}
-use Rattle.page_core_base.specs.Rows.{LaidRow, is_blank_row, Laid, join, seq, Item}
+use Rattle.page_core_base.specs.Rows.{Laid, join, seq, Item}
 use Rattle.page_core_base.specs.Rows as items
-use Rattle.page_core_base.specs.declared.limits.TheConstants.{CELLS}
 use Rattle.page_core_tables.specs.Glyphs.{Printing, char_printed, glyph_printed}
 use Rattle.page_fill.specs.declared.edges.OpenWord.{OpenWord}
 use Rattle.page_fill.specs.declared.edges.FillEdge.{FillEdge}
-use Rattle.page_fill_rows.specs.OpenRows.{Sheet, over, more_blank_rows, characters_of, unknown_notes, with_notes}
+use Rattle.page_fill_rows.specs.OpenRows.{Sheet, over, characters_of, unknown_notes, with_notes}
 use Rattle.page_fill_cells.specs.Cells.{blank, cell_of, cells_of}
-use Rattle.page_fill_rows.specs.machine.Sheets.{passes, letter, space}
 use Rattle.page_fill.specs.machine.Fill.{laid_piece}
-use Rattle.page_fill.specs.Words.{tab_notes, cell_content, printed_content, text_content, tab_content, RowWords, and_then, words_from, words_of, word_after_items, frame_of, open_row_of, with_row, next_edge, going_on, words_laid, after_cell, word_after}
+use Rattle.page_fill.specs.Words.{tab_notes, cell_content, printed_content, text_content, tab_content, RowWords, and_then, words_from, words_of, word_after_items, next_edge, going_on, words_laid, after_cell, word_after}
 use Rattle.page_fill.specs.machine.Items.{laid_items}
 use Rattle.page_fill.proofs.Marks.{Mark, reported, opened, spaced, lettered, letters_of, printed_marks, character_marks, text_marks, tab_marks, blank_marks, opening_marks, is_of_words, piece_marks}
-use Rattle.page_fill.specs.Filled.{CellOrNote, shown, noted, RowSoFar, filling}
+use Rattle.page_fill.specs.Filled.{CellOrNote, shown, noted, filling}
 use Rattle.page_fill_rows.specs.laws.Views.{IsHeld}
 use Rattle.page_fill.specs.laws.Views.{is_sound}
 use Rattle.page_fill.proofs.MarkRuns.{step, run, run-append}
 use Rattle.page_fill.proofs.MarkedPieces.{AreStanding, with_word, piece-run, stands-after, sound-after, run-literal}
-use Rattle.page_fill.proofs.FilledWords.{mark_of, marks_of, word_marks, words_marks, run-held, run-frame, filling-run, rest-run}
+use Rattle.page_fill.proofs.FilledWords.{mark_of, marks_of, word_marks, words_marks, run-held, filling-run, rest-run}
 
 -- ---- marks of cells and messages
 
@@ -114,77 +111,19 @@ piece-words output literal empty w (Tab font place) rest =
 piece-words output literal empty w Split rest = elim (cases_Bool (w.is_joined && not literal)) [ inl b ↦ rw b refl | inr b ↦ rw b refl ]
 piece-words output literal empty w _ rest = refl
 
--- ---- rows at the end
-
--- the blank rows at the end of rows, where so many stood there before them; and whether the last one is a heading's
-abbrev pub blank_rows_after : ℕ → List LaidRow → ℕ
-blank_rows_after n rows = fold (λ n row. if is_blank_row row then more_blank_rows n 1 else 0) n rows
-
-abbrev pub heading_after : Bool → List LaidRow → Bool
-heading_after heading rows = length rows == 0 && heading
-
-blank_rows-append : (n : ℕ) (xs ys : List LaidRow) → blank_rows_after (blank_rows_after n xs) ys ≡ blank_rows_after n (xs ++ ys)
-blank_rows-append n [] ys = refl
-blank_rows-append n (x ∷ xs) ys = blank_rows-append (if is_blank_row x then more_blank_rows n 1 else 0) xs ys
-
-heading-append : (b : Bool) (xs ys : List LaidRow) → heading_after (heading_after b xs) ys ≡ heading_after b (xs ++ ys)
-heading-append b [] ys = refl
-heading-append b (x ∷ xs) ys =
-    let some : (length (x ∷ xs) == 0) ≡ false = grind (arith, nat_tests) in
-    let more : (length (x ∷ (xs ++ ys)) == 0) ≡ false = grind (arith, nat_tests) in
-    rw (some, more) (elim (cases_Bool (length ys == 0)) [ inl z ↦ rw z refl | inr z ↦ rw z refl ])
-
--- ---- the whole sheet, by its open row and the rows that were given
-
-with_row-twice : (s : Sheet) (a b : RowSoFar) (xs ys : List LaidRow) → with_row (with_row s a xs) b ys ≡ with_row s b (xs ++ ys)
-with_row-twice s a b xs ys = rw (blank_rows-append s.blank_rows xs ys, heading-append s.heading xs ys) refl
-
-step-row : (s : Sheet) (m : Mark) → (step s m).edge ≡ with_row s (open_row_of (step s m).edge) (step s m).rows
-unfolding letter space
-step-row s (reported m) = refl
-step-row s opened = refl
-step-row s (spaced place) = elim (cases_Bool (length s.cells == 0)) [
-  | inl z ↦ rw z refl
-  | inr z ↦ elim (cases_Bool (passes s blank)) [
-    | inl p ↦ rw (z, p) refl
-    | inr p ↦ elim (cases_Bool (length s.cells == CELLS)) [ inl q ↦ rw (z, p, q) refl | inr q ↦ rw (z, p, q) refl ]
-  ]
-]
-step-row s (lettered cell place) = elim (cases_Bool (passes s cell)) [
-  | inl p ↦ rw p refl
-  | inr p ↦ elim (cases_Bool (length s.cells == CELLS)) [
-    | inl q ↦ rw (p, q) refl
-    | inr q ↦ elim (cases_Bool (length s.cells == 0)) [ inl z ↦ rw (p, q, z) refl | inr z ↦ rw (p, q, z) refl ]
-  ]
-]
-
-run-row : (s : Sheet) (ms : List Mark) → (run s ms).edge ≡ with_row s (open_row_of (run s ms).edge) (run s ms).rows
-unfolding run
-run-row s [] = refl
-run-row s (m ∷ ms) =
-    let x = step s m in
-    let y = run x.edge ms in
-    run-row x.edge ms
-    ∙ (ap (λ (t : Sheet). with_row t (open_row_of y.edge) y.rows) (step-row s m)
-    ∙ with_row-twice s (open_row_of x.edge) (open_row_of y.edge) x.rows y.rows)
-
 -- ---- words from an edge
 
-words-run : (s : Sheet) (words : RowWords) → IsHeld s → over (run s (all_marks words)) open_row_of ≡ going_on s words
+words-run : (s : Sheet) (words : RowWords) → IsHeld s → run s (all_marks words) ≡ going_on s words
 words-run s words h =
     let x = run s (marks_of words.first) in
-    ap (λ l. over l open_row_of) (run-append s (marks_of words.first) (words_marks words.later))
-    ∙ (ap (λ l. join (over x open_row_of) l) (filling-run x.edge words.later (run-held s (marks_of words.first) h))
-    ∙ (ap (λ f. join (over x open_row_of) (filling f (open_row_of x.edge) words.later)) (run-frame s (marks_of words.first))
-    ∙ ap (λ l. seq l (λ r. filling (frame_of s) r words.later)) (rest-run s words.first h)))
+    run-append s (marks_of words.first) (words_marks words.later)
+    ∙ (ap (λ l. join x l) (filling-run x.edge words.later (run-held s (marks_of words.first) h))
+    ∙ ap (λ l. seq l (λ t. filling t words.later)) (rest-run s words.first h))
 
 -- what marks do is what the words do on the whole edge
 pub edge-run : (e : FillEdge) (w : OpenWord) (words : RowWords) → IsHeld e.sheet
     → over (run e.sheet (all_marks words)) (with_word e w) ≡ next_edge e w (going_on e.sheet words)
-edge-run e w words h =
-    let x = run e.sheet (all_marks words) in
-    ap (λ (t : Sheet). over (record { rows = x.rows; notes = x.notes; edge = t }) (with_word e w)) (run-row e.sheet (all_marks words))
-    ∙ ap (next_edge e w) (words-run e.sheet words h)
+edge-run e w words h = ap (next_edge e w) (words-run e.sheet words h)
 
 -- ---- items
 

@@ -14,12 +14,12 @@ use Rattle.page_core_base.specs.declared.limits.TheConstants.{CELLS}
 use Rattle.page_core_tables.specs.Glyphs.{char_printed, known}
 use Rattle.page_fill.specs.declared.edges.FillEdge.{FillEdge}
 use Rattle.page_fill.specs.declared.edges.OpenWord.{OpenWord}
-use Rattle.page_fill.specs.Words.{begun_word, cell_content, text_content, RowWords, words_of, word_after_items, frame_of, open_row_of, next_edge, going_on}
+use Rattle.page_fill.specs.Words.{begun_word, cell_content, text_content, RowWords, words_of, word_after_items, next_edge, going_on}
 use Rattle.page_fill_rows.specs.OpenRows.{Sheet, characters_of}
 use Rattle.page_fill_cells.specs.Cells.{columns, blank, cell_of, cells_of}
 use Rattle.page_core_base.specs.laws.Views.{is_printable, is_printable_ascii}
 use Rattle.page_fill_rows.proofs.PlainLemmas.{characters_of-plain, columns-plain, first-plain, rest-plain}
-use Rattle.page_fill.specs.Filled.{RowWord, Frame, RowSoFar, first_word, outcome, one_word, rest_of_word, filling}
+use Rattle.page_fill.specs.Filled.{RowWord, first_word, outcome, one_word, rest_of_word, filling}
 use Rattle.page_fill.specs.Filling.{groups, filled}
 use Rattle.page_fill.specs.machine.Words.{with_word, word_wrapped}
 use Rattle.page_fill.proofs.GlueLaw.{seq-nothing, one-group, laid-by}
@@ -53,24 +53,24 @@ some-plain bytes plain some = let e : (length bytes == 0) ≡ false = grind (ari
 
 -- ---- words that go on from an open row
 
-nothing-left : (frame : Frame) (row : RowSoFar) → rest_of_word frame row [] ≡ nothing row
+nothing-left : (s : Sheet) → rest_of_word s [] ≡ nothing s
 unfolding first_word outcome
-nothing-left frame row = elim (cases_Bool (row.gap == 0)) [ inl z ↦ rw z refl | inr z ↦ rw z refl ]
+nothing-left s = elim (cases_Bool (s.gap == 0)) [ inl z ↦ rw z refl | inr z ↦ rw z refl ]
 
 abbrev later : List RowWord → RowWords
 later words = record { first = []; later = words }
 
-later-words : (s : Sheet) (words : List RowWord) → going_on s (later words) ≡ filling (frame_of s) (open_row_of s) words
-later-words s words = ap (λ (l : Laid RowSoFar). seq l (λ r. filling (frame_of s) r words)) (nothing-left (frame_of s) (open_row_of s))
+later-words : (s : Sheet) (words : List RowWord) → going_on s (later words) ≡ filling s words
+later-words s words = ap (λ (l : Laid Sheet). seq l (λ t. filling t words)) (nothing-left s)
 
-one-word : (frame : Frame) (row : RowSoFar) (n : ℕ) (cells : List Cell) (p q : Place) → filling frame row (apart n cells p q ∷ []) ≡ one_word frame row (apart n cells p q)
+one-word : (s : Sheet) (n : ℕ) (cells : List Cell) (p q : Place) → filling s (apart n cells p q ∷ []) ≡ one_word s (apart n cells p q)
 unfolding filling
-one-word frame row n cells p q = seq-nothing (one_word frame row (apart n cells p q))
+one-word s n cells p q = seq-nothing (one_word s (apart n cells p q))
 
-word-before : (frame : Frame) (row next : RowSoFar) (n : ℕ) (cells : List Cell) (p q : Place) (words : List RowWord) → one_word frame row (apart n cells p q) ≡ nothing next
-    → filling frame row (apart n cells p q ∷ words) ≡ filling frame next words
+word-before : (s next : Sheet) (n : ℕ) (cells : List Cell) (p q : Place) (words : List RowWord) → one_word s (apart n cells p q) ≡ nothing next
+    → filling s (apart n cells p q ∷ words) ≡ filling next words
 unfolding filling
-word-before frame row next n cells p q words step = ap (λ (l : Laid RowSoFar). seq l (λ r. filling frame r words)) step
+word-before s next n cells p q words step = ap (λ (l : Laid Sheet). seq l (λ t. filling t words)) step
 
 -- ---- the words of the pieces
 
@@ -113,37 +113,34 @@ parts-words output literal empty w a b font place new untabbed fill begun plain 
 -- ---- a part
 
 part-laid : (e : FillEdge) (b : List ℕ) (font : Font) (place : Place) → e.word.is_joined ≡ true → e.sheet.literal ≡ false → is_printable_ascii b ≡ true → 0 < length b
-    → filled e (part b font place) ≡ next_edge e e.word (one_word (frame_of e.sheet) (open_row_of e.sheet) (apart 0 (cells_of font b) nowhere place))
+    → filled e (part b font place) ≡ next_edge e e.word (one_word e.sheet (apart 0 (cells_of font b) nowhere place))
 unfolding groups
 part-laid e b font place joined fill plain some =
     let s = some-plain b plain some in
     let word = apart 0 (cells_of font b) nowhere place in
     one-group e (part b font place)
     ∙ (laid-by e (part b font place) e.word (later (word ∷ [])) (part-after e.sheet.literal e.word b font place joined s) (part-words e.output e.sheet.literal (length e.sheet.cells == 0) e.word b font place joined fill plain s)
-    ∙ ap (next_edge e e.word) (later-words e.sheet (word ∷ []) ∙ one-word (frame_of e.sheet) (open_row_of e.sheet) 0 (cells_of font b) nowhere place))
+    ∙ ap (next_edge e e.word) (later-words e.sheet (word ∷ []) ∙ one-word e.sheet 0 (cells_of font b) nowhere place))
 
 pub next-fits : (e : FillEdge) (b : List ℕ) (font : Font) (place : Place) → e.word.is_joined ≡ true → e.sheet.literal ≡ false → 0 < length e.sheet.cells
     → is_printable_ascii b ≡ true → 0 < length b → length e.sheet.cells + length b ≤ CELLS
     → e.sheet.margin + columns e.sheet.cells + length b ≤ e.sheet.width
-    → filled e (shown Split ∷ shown (Text b font place) ∷ []) ≡ next_edge e e.word (nothing (with_word (open_row_of e.sheet) 0 (cells_of font b)))
+    → filled e (shown Split ∷ shown (Text b font place) ∷ []) ≡ next_edge e e.word (nothing (with_word e.sheet 0 (cells_of font b)))
 next-fits e b font place joined fill begun plain some room fits =
     let n : length (cells_of font b) ≡ length b = length-map b (cell_of font) in
     let w = columns-plain font b plain in
     part-laid e b font place joined fill plain some
-    ∙ ap (next_edge e e.word) (word-fits (frame_of e.sheet) (open_row_of e.sheet) 0 (cells_of font b) nowhere place begun (omega arith) (omega arith))
-
-filling-rows : (s : Sheet) → s.literal ≡ false → (frame_of s).fills ≡ true
-filling-rows s fill = rw fill refl
+    ∙ ap (next_edge e e.word) (word-fits e.sheet 0 (cells_of font b) nowhere place begun (omega arith) (omega arith))
 
 pub next-passes : (e : FillEdge) (b : List ℕ) (font : Font) (place : Place) → e.word.is_joined ≡ true → e.sheet.literal ≡ false → 0 < length e.sheet.cells
     → is_printable_ascii b ≡ true → 0 < length b → length e.sheet.cells + length b ≤ CELLS
     → e.sheet.margin + columns e.sheet.cells ≤ e.sheet.width → e.sheet.width < e.sheet.margin + columns e.sheet.cells + length b
-    → filled e (shown Split ∷ shown (Text b font place) ∷ []) ≡ next_edge e e.word (word_wrapped (frame_of e.sheet) (open_row_of e.sheet) 0 (cells_of font b))
+    → filled e (shown Split ∷ shown (Text b font place) ∷ []) ≡ next_edge e e.word (word_wrapped e.sheet 0 (cells_of font b))
 next-passes e b font place joined fill begun plain some room fits past =
     let n : length (cells_of font b) ≡ length b = length-map b (cell_of font) in
     let w = columns-plain font b plain in
     part-laid e b font place joined fill plain some
-    ∙ ap (next_edge e e.word) (passes-law (frame_of e.sheet) (open_row_of e.sheet) 0 (cells_of font b) nowhere place (filling-rows e.sheet fill) begun (omega arith) (omega arith) (omega arith))
+    ∙ ap (next_edge e e.word) (passes-law e.sheet 0 (cells_of font b) nowhere place fill begun (omega arith) (omega arith) (omega arith))
 
 -- ---- a word of two parts
 
@@ -151,11 +148,10 @@ parts-laid : (e : FillEdge) (a b : List ℕ) (font : Font) (place : Place) → e
     → is_printable_ascii a ≡ true → 0 < length a → is_printable_ascii b ≡ true → 0 < length b
     → length e.sheet.cells + e.word.blanks + length a ≤ CELLS → e.sheet.margin + columns e.sheet.cells + e.word.blanks + length a ≤ e.sheet.width
     → filled e (two_parts a b font place) ≡ next_edge e (begun_word false)
-    (one_word (frame_of e.sheet) (with_word (open_row_of e.sheet) e.word.blanks (cells_of font a)) (apart 0 (cells_of font b) nowhere place))
+    (one_word (with_word e.sheet e.word.blanks (cells_of font a)) (apart 0 (cells_of font b) nowhere place))
 unfolding groups
 parts-laid e a b font place new untabbed fill begun plain some plain' some' room fits =
-    let frame = frame_of e.sheet in
-    let row = open_row_of e.sheet in
+    let row = e.sheet in
     let s = some-plain a plain some in
     let t = some-plain b plain' some' in
     let n : length (cells_of font a) ≡ length a = length-map a (cell_of font) in
@@ -163,13 +159,13 @@ parts-laid e a b font place new untabbed fill begun plain some plain' some' room
     let cells : (length e.sheet.cells == 0) ≡ false = grind (arith, nat_tests) in
     let second = apart 0 (cells_of font b) nowhere place in
     let all = apart e.word.blanks (cells_of font a) place place ∷ second ∷ [] in
-    let first = word-fits frame row e.word.blanks (cells_of font a) place place begun (omega arith) (omega arith) in
+    let first = word-fits row e.word.blanks (cells_of font a) place place begun (omega arith) (omega arith) in
     one-group e (two_parts a b font place)
     ∙ (laid-by e (two_parts a b font place) (begun_word false) (later all) (parts-after e.sheet.literal e.word a b font place new untabbed s t)
     (parts-words e.output e.sheet.literal (length e.sheet.cells == 0) e.word a b font place new untabbed fill cells plain plain' s t)
     ∙ ap (next_edge e (begun_word false)) (later-words e.sheet all
-    ∙ (word-before frame row (with_word row e.word.blanks (cells_of font a)) e.word.blanks (cells_of font a) place place (second ∷ []) first
-    ∙ one-word frame (with_word row e.word.blanks (cells_of font a)) 0 (cells_of font b) nowhere place)))
+    ∙ (word-before row (with_word row e.word.blanks (cells_of font a)) e.word.blanks (cells_of font a) place place (second ∷ []) first
+    ∙ one-word (with_word row e.word.blanks (cells_of font a)) 0 (cells_of font b) nowhere place)))
 
 with-columns : (cells : List Cell) (n : ℕ) (a : List ℕ) (font : Font) → is_printable_ascii a ≡ true
     → columns (cells ++ (replicate n blank ++ cells_of font a)) ≡ columns cells + n + length a
@@ -184,15 +180,15 @@ pub both-fit : (e : FillEdge) (a b : List ℕ) (font : Font) (place : Place) →
     → length e.sheet.cells + e.word.blanks + length a + length b ≤ CELLS
     → e.sheet.margin + columns e.sheet.cells + e.word.blanks + length a + length b ≤ e.sheet.width
     → filled e (shown (Text a font place) ∷ shown Split ∷ shown (Text b font place) ∷ [])
-    ≡ next_edge e (begun_word false) (nothing (with_word (with_word (open_row_of e.sheet) e.word.blanks (cells_of font a)) 0 (cells_of font b)))
+    ≡ next_edge e (begun_word false) (nothing (with_word (with_word e.sheet e.word.blanks (cells_of font a)) 0 (cells_of font b)))
 both-fit e a b font place new untabbed fill begun plain some plain' some' room fits =
-    let row = with_word (open_row_of e.sheet) e.word.blanks (cells_of font a) in
+    let row = with_word e.sheet e.word.blanks (cells_of font a) in
     let w = with-columns e.sheet.cells e.word.blanks a font plain in
     let n = with-length e.sheet.cells e.word.blanks a font in
     let m : length (cells_of font b) ≡ length b = length-map b (cell_of font) in
     let v = columns-plain font b plain' in
     parts-laid e a b font place new untabbed fill begun plain some plain' some' (omega arith) (omega arith)
-    ∙ ap (next_edge e (begun_word false)) (word-fits (frame_of e.sheet) row 0 (cells_of font b) nowhere place (omega arith) (omega arith) (omega arith))
+    ∙ ap (next_edge e (begun_word false)) (word-fits row 0 (cells_of font b) nowhere place (omega arith) (omega arith) (omega arith))
 
 pub second-passes : (e : FillEdge) (a b : List ℕ) (font : Font) (place : Place) → e.word.is_joined ≡ false → e.word.has_tab ≡ false → e.sheet.literal ≡ false
     → 0 < length e.sheet.cells → is_printable_ascii a ≡ true → 0 < length a → is_printable_ascii b ≡ true → 0 < length b
@@ -200,12 +196,12 @@ pub second-passes : (e : FillEdge) (a b : List ℕ) (font : Font) (place : Place
     → e.sheet.margin + columns e.sheet.cells + e.word.blanks + length a ≤ e.sheet.width
     → e.sheet.width < e.sheet.margin + columns e.sheet.cells + e.word.blanks + length a + length b
     → filled e (shown (Text a font place) ∷ shown Split ∷ shown (Text b font place) ∷ [])
-    ≡ next_edge e (begun_word false) (word_wrapped (frame_of e.sheet) (with_word (open_row_of e.sheet) e.word.blanks (cells_of font a)) 0 (cells_of font b))
+    ≡ next_edge e (begun_word false) (word_wrapped (with_word e.sheet e.word.blanks (cells_of font a)) 0 (cells_of font b))
 second-passes e a b font place new untabbed fill begun plain some plain' some' room fits past =
-    let row = with_word (open_row_of e.sheet) e.word.blanks (cells_of font a) in
+    let row = with_word e.sheet e.word.blanks (cells_of font a) in
     let w = with-columns e.sheet.cells e.word.blanks a font plain in
     let n = with-length e.sheet.cells e.word.blanks a font in
     let m : length (cells_of font b) ≡ length b = length-map b (cell_of font) in
     let v = columns-plain font b plain' in
     parts-laid e a b font place new untabbed fill begun plain some plain' some' (omega arith) fits
-    ∙ ap (next_edge e (begun_word false)) (passes-law (frame_of e.sheet) row 0 (cells_of font b) nowhere place (filling-rows e.sheet fill) (omega arith) (omega arith) (omega arith) (omega arith))
+    ∙ ap (next_edge e (begun_word false)) (passes-law row 0 (cells_of font b) nowhere place fill (omega arith) (omega arith) (omega arith) (omega arith))

@@ -5,16 +5,16 @@
 -- and are dropped where a row ends before them or among them. A row without an offending cell goes on. Where rows are kept as they are (no-fill
 -- mode), no row ends for its width, and blanks are cells of words. Each cell of a word, and each blank that a row took, counts for the open tag.
 -- Source: roff(7), "Filling and adjusting".
-use Rattle.std.specs.Prelude.{ℕ, List, Bool, ◌+◌, true, min, [], ◌∷◌, ◌++◌, length, take, ◌==◌, if◌then◌else◌, ◌&&◌, nat_lt, drop, replicate}
+use Rattle.std.specs.Prelude.{ℕ, List, ◌+◌, true, false, min, [], ◌∷◌, ◌++◌, length, take, ◌==◌, if◌then◌else◌, not, ◌&&◌, nat_lt, drop, replicate}
 use Rattle.page_core_base.specs.Limits.{name_of, CELLS}
 use Rattle.page_core_base.specs.Messages.{Message, message_about}
-use Rattle.page_core_base.specs.Rows.{row_of, Laid, nothing, seq}
+use Rattle.page_core_base.specs.Rows.{row_of, is_blank_row, Laid, nothing, seq}
 use Rattle.page_core_base.specs.declared.cells.Cell.{Cell}
 use Rattle.page_core_base.specs.declared.limits.Limit.TheVariants.{Cells}
 use Rattle.page_core_base.specs.declared.note_kinds.NoteKind.TheVariants.{Limit}
 use Rattle.page_core_base.specs.declared.places.Place.{Place}
 use Rattle.page_fill_cells.specs.Cells.{cell_columns, columns, blank}
-use Rattle.page_fill_rows.specs.OpenRows.{TAG_COLUMNS, with_notes}
+use Rattle.page_fill_rows.specs.OpenRows.{TAG_COLUMNS, Sheet, more_blank_rows, with_notes}
 
 -- ---- words
 
@@ -33,113 +33,97 @@ pub record RowWord : Type 0 where
 
 -- ---- rows
 
--- the columns of a row with its margin, whether rows are filled up to it, and the margin of all rows but the next
-pub record Frame : Type 0 where
-  pub width : ℕ
-  pub fills : Bool
-  pub rest : ℕ
-
--- the row that is open
-pub record RowSoFar : Type 0 where
-  -- its margin, its cells (none: no row is open), how many of them are before its last word and that word's blanks, and before that word
-  pub margin : ℕ
-  pub cells : List Cell
-  pub gap : ℕ
-  pub word : ℕ
-  -- the margin of the row after it
-  pub next : ℕ
-  -- the columns of the open tag's cells, up to TAG_COLUMNS, and whether it has a cell
-  pub tag_columns : ℕ
-  pub tag_begun : Bool
-
 -- the cell counts for the open tag
-abbrev pub counted : RowSoFar → Cell → RowSoFar
-counted row cell = record row { tag_columns = min (row.tag_columns + cell_columns cell) TAG_COLUMNS; tag_begun = true }
+abbrev pub counted : Sheet → Cell → Sheet
+counted s cell = record s { tag_columns = min (s.tag_columns + cell_columns cell) TAG_COLUMNS; tag_begun = true }
 
--- the row takes one more cell
-abbrev pub with_cell : RowSoFar → Cell → RowSoFar
-with_cell row cell = record (counted row cell) { cells = row.cells ++ cell ∷ [] }
+-- the open row takes one more cell
+abbrev pub with_cell : Sheet → Cell → Sheet
+with_cell s cell = record (counted s cell) { cells = s.cells ++ cell ∷ [] }
 
 -- a word begins after the row's cells
-abbrev pub opens : RowSoFar → RowSoFar
-opens row = record row { gap = length row.cells; word = length row.cells }
+abbrev pub opens : Sheet → Sheet
+opens s = record s { gap = length s.cells; word = length s.cells }
 
 -- the cells before the last word and its blanks
-abbrev pub before_word : RowSoFar → List Cell
-before_word row = take row.gap row.cells
+abbrev pub before_word : Sheet → List Cell
+before_word s = take s.gap s.cells
 
 -- a row of these cells begins
-abbrev pub row_begun : Frame → RowSoFar → List Cell → RowSoFar
-row_begun frame row cells = record row { margin = row.next; cells = cells; gap = 0; word = 0; next = frame.rest }
+abbrev pub row_begun : Sheet → List Cell → Sheet
+row_begun s cells = record s { margin = s.first; first = s.rest; cells = cells; gap = 0; word = 0 }
 
--- a row of these cells ends, and none is open
-abbrev pub row_ended : RowSoFar → List Cell → Laid RowSoFar
-row_ended row cells = record { rows = row_of row.margin cells ∷ []; notes = []; edge = record row { cells = []; gap = 0; word = 0 } }
+-- a row of these cells ends, which is no heading's so far, and none is open
+abbrev pub row_ended : Sheet → List Cell → Laid Sheet
+row_ended s cells =
+    let row = row_of s.margin cells in
+    let blank_rows = if is_blank_row row then more_blank_rows s.blank_rows 1 else 0 in
+    record { rows = row ∷ []; notes = []; edge = record s { cells = []; gap = 0; word = 0; blank_rows = blank_rows; heading = false } }
 
 -- a row of these cells ends, since one more would be too many
-abbrev pub full_row_ended : RowSoFar → List Cell → Place → Laid RowSoFar
-full_row_ended row cells place = with_notes (message_about Limit place (name_of Cells) ∷ []) (row_ended row cells)
+abbrev pub full_row_ended : Sheet → List Cell → Place → Laid Sheet
+full_row_ended s cells place = with_notes (message_about Limit place (name_of Cells) ∷ []) (row_ended s cells)
 
 -- ---- the first word of a row
 
 -- a row's first word, or what is left of it: the row begins with a cell, or takes it, and ends only before a cell that would be one too many
-unfoldable pub first_word : Frame → RowSoFar → List CellOrNote → Laid RowSoFar
-first_word frame row [] = nothing row
-first_word frame row (noted m ∷ content) = with_notes (m ∷ []) (first_word frame row content)
-first_word frame row (shown cell place ∷ content) =
-    if length row.cells == CELLS then seq (full_row_ended row row.cells place) (λ r. first_word frame (row_begun frame (counted r cell) (cell ∷ [])) content)
-    else first_word frame (if length row.cells == 0 then row_begun frame (counted row cell) (cell ∷ []) else with_cell row cell) content
+unfoldable pub first_word : Sheet → List CellOrNote → Laid Sheet
+first_word s [] = nothing s
+first_word s (noted m ∷ content) = with_notes (m ∷ []) (first_word s content)
+first_word s (shown cell place ∷ content) =
+    if length s.cells == CELLS then seq (full_row_ended s s.cells place) (λ t. first_word (row_begun (counted t cell) (cell ∷ [])) content)
+    else first_word (if length s.cells == 0 then row_begun (counted s cell) (cell ∷ []) else with_cell s cell) content
 
 -- ---- the other words of a row
 
 -- what a word's cells and messages do in a row: no cell offends, and the row is this one after them; at one the columns pass the width, before which the row
 -- is this one; or one is too many, before which the row is this one, at this place, and from which on these are left
 pub data WordOutcome : Type 0 where
-  fits : List Message → RowSoFar → WordOutcome
-  too_wide : RowSoFar → WordOutcome
-  too_many : List Message → RowSoFar → Place → List CellOrNote → WordOutcome
+  fits : List Message → Sheet → WordOutcome
+  too_wide : Sheet → WordOutcome
+  too_many : List Message → Sheet → Place → List CellOrNote → WordOutcome
 
 -- an outcome after a message, which comes before the others. Where the columns pass the width none is reported yet: the next row has all of the word's
 abbrev pub after_note : Message → WordOutcome → WordOutcome
-after_note m (fits notes row) = fits (m ∷ notes) row
-after_note m (too_wide row) = too_wide row
-after_note m (too_many notes row place left) = too_many (m ∷ notes) row place left
+after_note m (fits notes taken) = fits (m ∷ notes) taken
+after_note m (too_wide taken) = too_wide taken
+after_note m (too_many notes taken place left) = too_many (m ∷ notes) taken place left
 
 -- what content does in a row
-unfoldable pub outcome : Frame → RowSoFar → List CellOrNote → WordOutcome
-outcome frame row [] = fits [] row
-outcome frame row (noted m ∷ content) = after_note m (outcome frame row content)
-outcome frame row (shown cell place ∷ content) =
-    if frame.fills && nat_lt frame.width (row.margin + columns row.cells + cell_columns cell) then too_wide row
-    else if length row.cells == CELLS then too_many [] row place (shown cell place ∷ content)
-    else outcome frame (with_cell row cell) content
+unfoldable pub outcome : Sheet → List CellOrNote → WordOutcome
+outcome s [] = fits [] s
+outcome s (noted m ∷ content) = after_note m (outcome s content)
+outcome s (shown cell place ∷ content) =
+    if not s.literal && nat_lt s.width (s.margin + columns s.cells + cell_columns cell) then too_wide s
+    else if length s.cells == CELLS then too_many [] s place (shown cell place ∷ content)
+    else outcome (with_cell s cell) content
 
 -- the row's last word, which is not its first, goes on with this content: the row takes it, or ends before the word, whose cells begin the next row, or in it
-abbrev pub by_word : Frame → RowSoFar → List CellOrNote → WordOutcome → Laid RowSoFar
-by_word frame row content (fits notes taken) = with_notes notes (nothing taken)
-by_word frame row content (too_wide taken) =
-    let cells = drop row.word row.cells in
-    seq (row_ended row (before_word row)) (λ r. first_word frame (if length cells == 0 then r else row_begun frame r cells) content)
-by_word frame row content (too_many notes taken place left) = with_notes notes (seq (full_row_ended taken taken.cells place) (λ r. first_word frame r left))
+abbrev pub by_word : Sheet → List CellOrNote → WordOutcome → Laid Sheet
+by_word s content (fits notes taken) = with_notes notes (nothing taken)
+by_word s content (too_wide taken) =
+    let cells = drop s.word s.cells in
+    seq (row_ended s (before_word s)) (λ t. first_word (if length cells == 0 then t else row_begun t cells) content)
+by_word s content (too_many notes taken place left) = with_notes notes (seq (full_row_ended taken taken.cells place) (λ t. first_word t left))
 
 -- the row took the blanks before a word of this content, which begins after them; or it ends before them
-abbrev pub by_blanks : Frame → List CellOrNote → WordOutcome → Laid RowSoFar
-by_blanks frame content (fits notes taken) = let row = record taken { word = length taken.cells } in by_word frame row content (outcome frame row content)
-by_blanks frame content (too_wide taken) = seq (row_ended taken (before_word taken)) (λ r. first_word frame r content)
-by_blanks frame content (too_many notes taken place left) = seq (full_row_ended taken (before_word taken) place) (λ r. first_word frame r content)
+abbrev pub by_blanks : List CellOrNote → WordOutcome → Laid Sheet
+by_blanks content (fits notes taken) = let s = record taken { word = length taken.cells } in by_word s content (outcome s content)
+by_blanks content (too_wide taken) = seq (row_ended taken (before_word taken)) (λ t. first_word t content)
+by_blanks content (too_many notes taken place left) = seq (full_row_ended taken (before_word taken) place) (λ t. first_word t content)
 
 -- a row that is open takes one more word, or none is
-abbrev pub one_word : Frame → RowSoFar → RowWord → Laid RowSoFar
-one_word frame row word =
-    if length row.cells == 0 then first_word frame (opens row) word.content
-    else by_blanks frame word.content (outcome frame (opens row) (replicate word.blanks (shown blank word.place)))
+abbrev pub one_word : Sheet → RowWord → Laid Sheet
+one_word s word =
+    if length s.cells == 0 then first_word (opens s) word.content
+    else by_blanks word.content (outcome (opens s) (replicate word.blanks (shown blank word.place)))
 
 -- the row's last word goes on with this content
-abbrev pub rest_of_word : Frame → RowSoFar → List CellOrNote → Laid RowSoFar
-rest_of_word frame row content = if row.gap == 0 then first_word frame row content else by_word frame row content (outcome frame row content)
+abbrev pub rest_of_word : Sheet → List CellOrNote → Laid Sheet
+rest_of_word s content = if s.gap == 0 then first_word s content else by_word s content (outcome s content)
 
 -- ---- words one after another
 
-unfoldable pub filling : Frame → RowSoFar → List RowWord → Laid RowSoFar
-filling frame row [] = nothing row
-filling frame row (word ∷ words) = with_notes word.notes (seq (one_word frame row word) (λ r. filling frame r words))
+unfoldable pub filling : Sheet → List RowWord → Laid Sheet
+filling s [] = nothing s
+filling s (word ∷ words) = with_notes word.notes (seq (one_word s word) (λ t. filling t words))

@@ -9,7 +9,7 @@ use Rattle.page_core_base.specs.declared.places.Place.{Place}
 use Rattle.page_fill_cells.specs.Cells.{blank, columns}
 use Rattle.page_fill_rows.specs.OpenRows.{more_blank_rows, over}
 use Rattle.page_fill.specs.Filled.{row_ended, CellOrNote}
-use Rattle.page_fill.specs.Words.{no_word, open_row_of, next_edge, cell_content, with_tag, words_laid, content_laid}
+use Rattle.page_fill.specs.Words.{no_word, next_edge, cell_content, with_tag, words_laid, content_laid}
 use Rattle.page_fill.specs.declared.edges.FillEdge.{FillEdge}
 use Rattle.page_fill.specs.declared.edges.OpenTag.{OpenTag}
 
@@ -44,7 +44,7 @@ groups (shown p ∷ items) = if is_of_words p then in_front (shown p) (groups it
 
 -- the open row ends, if there is one, and nothing waits
 abbrev pub row_end : FillEdge → Laid FillEdge
-row_end e = let row = open_row_of e.sheet in next_edge e no_word (if length row.cells == 0 then nothing row else row_ended row row.cells)
+row_end e = next_edge e no_word (if length e.sheet.cells == 0 then nothing e.sheet else row_ended e.sheet e.sheet.cells)
 
 -- a count of blank rows
 abbrev pub blank_rows : FillEdge → ℕ → Laid FillEdge

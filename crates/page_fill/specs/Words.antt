@@ -1,7 +1,7 @@
 -- The words of pieces between two breaks, and what is held between two pieces. Source: roff(7), "Filling and adjusting".
-use Rattle.std.specs.Prelude.{false, Bool, true, None, Some, ℕ, List, [], ◌∷◌, if◌then◌else◌, map, ◌++◌, flat_map, not, ◌&&◌, ◌==◌, length, ◌||◌, replicate, fold}
+use Rattle.std.specs.Prelude.{false, Bool, true, None, Some, ℕ, List, [], ◌∷◌, if◌then◌else◌, map, ◌++◌, flat_map, not, ◌&&◌, ◌==◌, length, ◌||◌, replicate}
 use Rattle.page_core_base.specs.Messages.{Message, message_about}
-use Rattle.page_core_base.specs.Rows.{Item, LaidRow, is_blank_row, Laid, seq}
+use Rattle.page_core_base.specs.Rows.{Item, Laid, seq}
 use Rattle.page_core_base.specs.Rows as items
 use Rattle.page_core_base.specs.declared.cells.Cell.{Cell}
 use Rattle.page_core_base.specs.declared.cells.Font.{Font}
@@ -15,8 +15,8 @@ use Rattle.page_core_base.specs.declared.pieces.TagForm.TheVariants as forms
 use Rattle.page_core_base.specs.declared.places.Place.{Place}
 use Rattle.page_core_tables.specs.Glyphs.{Printing, char_printed, glyph_printed}
 use Rattle.page_fill_cells.specs.Cells.{cells_of, cell_of, blank}
-use Rattle.page_fill_rows.specs.OpenRows.{fresh, unknown_notes, characters_of, Sheet, more_blank_rows, over}
-use Rattle.page_fill.specs.Filled.{CellOrNote, shown, noted, RowWord, Frame, RowSoFar, rest_of_word, filling}
+use Rattle.page_fill_rows.specs.OpenRows.{fresh, unknown_notes, characters_of, Sheet, over}
+use Rattle.page_fill.specs.Filled.{CellOrNote, shown, noted, RowWord, rest_of_word, filling}
 use Rattle.page_fill.specs.declared.edges.FillEdge.{FillEdge}
 use Rattle.page_fill.specs.declared.edges.OpenTag.{OpenTag}
 use Rattle.page_fill.specs.declared.edges.OpenWord.{OpenWord}
@@ -143,41 +143,13 @@ word_after_items literal w (items.shown p ∷ more) = word_after_items literal (
 
 -- ---- from an edge
 
--- how its rows are filled, and its open row
-abbrev pub frame_of : Sheet → Frame
-frame_of s = record { width = s.width; fills = not s.literal; rest = s.rest }
+-- the edge with another open row, and with what waits
+abbrev pub next_edge : FillEdge → OpenWord → Laid Sheet → Laid FillEdge
+next_edge e w l = over l (λ s. record e { sheet = s; word = w })
 
-abbrev pub open_row_of : Sheet → RowSoFar
-open_row_of s = record {
-  margin = s.margin;
-  cells = s.cells;
-  gap = s.gap;
-  word = s.word;
-  next = s.first;
-  tag_columns = s.tag_columns;
-  tag_begun = s.tag_begun;
-}
-
--- the edge with another open row, after these rows, of which none is a heading's, and with what waits
-abbrev pub with_row : Sheet → RowSoFar → List LaidRow → Sheet
-with_row s row rows = record s {
-  first = row.next;
-  margin = row.margin;
-  cells = row.cells;
-  gap = row.gap;
-  word = row.word;
-  blank_rows = fold (λ n given. if is_blank_row given then more_blank_rows n 1 else 0) s.blank_rows rows;
-  heading = length rows == 0 && s.heading;
-  tag_columns = row.tag_columns;
-  tag_begun = row.tag_begun;
-}
-
-abbrev pub next_edge : FillEdge → OpenWord → Laid RowSoFar → Laid FillEdge
-next_edge e w l = over l (λ row. record e { sheet = with_row e.sheet row l.rows; word = w })
-
--- words go on from an edge: the first may go on with the open row's last word, and the others follow
-abbrev pub going_on : Sheet → RowWords → Laid RowSoFar
-going_on s words = seq (rest_of_word (frame_of s) (open_row_of s) words.first) (λ r. filling (frame_of s) r words.later)
+-- the first words may go on with the open row's last word, and the others follow
+abbrev pub going_on : Sheet → RowWords → Laid Sheet
+going_on s words = seq (rest_of_word s words.first) (λ t. filling t words.later)
 
 -- a group of words, with the messages among them
 unfoldable pub words_laid : FillEdge → List Item → Laid FillEdge

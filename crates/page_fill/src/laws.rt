@@ -15,7 +15,8 @@ ghost use Rattle.page_fill_cells.specs.Cells.{cells_of};
 ghost use Rattle.page_fill_rows.specs.OpenRows as open_rows;
 ghost use Rattle.page_core_base.specs.laws.Views.{is_printable_ascii};
 ghost use Rattle.page_fill.specs.machine.ByPiece.{laid_items};
-ghost use Rattle.page_fill.specs.Filled.{Frame, RowSoFar, one_word};
+ghost use Rattle.page_fill.specs.Filled.{one_word};
+ghost use Rattle.page_fill_rows.specs.OpenRows.{Sheet};
 ghost use Rattle.page_fill.specs.Filling as filling;
 ghost use Rattle.page_fill.specs.machine.Words as row;
 
@@ -46,24 +47,24 @@ pub fn glue_law()
 /// begins the next row. A row's first word is taken whatever its columns are, up to `CELLS` cells: so the columns of a filled row pass
 /// the width only where its first word alone does.
 pub fn word_law()
-    ensures fits { (frame : Frame) (r : RowSoFar) (n : ℕ) (cells : List Cell) (place : Place)
-        → 0 < length r.cells → length r.cells + n + length cells ≤ CELLS
-        → r.margin + open_rows.columns r.cells + n + open_rows.columns cells ≤ frame.width
-        → one_word frame r (row.word_of_cells n cells place) ≡ nothing (row.with_word r n cells) }
-    ensures passes { (frame : Frame) (r : RowSoFar) (n : ℕ) (cells : List Cell) (place : Place)
-        → frame.fills ≡ true → 0 < length r.cells → length r.cells + n + length cells ≤ CELLS
-        → r.margin + open_rows.columns r.cells + n ≤ frame.width
-        → frame.width < r.margin + open_rows.columns r.cells + n + open_rows.columns cells
-        → one_word frame r (row.word_of_cells n cells place) ≡ row.word_wrapped frame r n cells }
-    ensures blanks_pass { (frame : Frame) (r : RowSoFar) (n : ℕ) (cell : Cell) (cells : List Cell) (place : Place)
-        → frame.fills ≡ true → 0 < length r.cells → length r.cells + n ≤ CELLS
-        → frame.width < r.margin + open_rows.columns r.cells + n → 0 < n → length (cell ∷ cells) ≤ CELLS
-        → one_word frame r (row.word_of_cells n (cell ∷ cells) place)
-        ≡ row.word_wrapped frame r (row.fitting frame r) (cell ∷ cells) }
-    ensures first { (frame : Frame) (r : RowSoFar) (n : ℕ) (cell : Cell) (cells : List Cell) (place : Place)
-        → length r.cells ≡ 0 → length (cell ∷ cells) ≤ CELLS
-        → one_word frame r (row.word_of_cells n (cell ∷ cells) place)
-        ≡ nothing (row.word_first frame r (cell ∷ cells)) }
+    ensures fits { (s : Sheet) (n : ℕ) (cells : List Cell) (place : Place)
+        → 0 < length s.cells → length s.cells + n + length cells ≤ CELLS
+        → s.margin + open_rows.columns s.cells + n + open_rows.columns cells ≤ s.width
+        → one_word s (row.word_of_cells n cells place) ≡ nothing (row.with_word s n cells) }
+    ensures passes { (s : Sheet) (n : ℕ) (cells : List Cell) (place : Place)
+        → s.literal ≡ false → 0 < length s.cells → length s.cells + n + length cells ≤ CELLS
+        → s.margin + open_rows.columns s.cells + n ≤ s.width
+        → s.width < s.margin + open_rows.columns s.cells + n + open_rows.columns cells
+        → one_word s (row.word_of_cells n cells place) ≡ row.word_wrapped s n cells }
+    ensures blanks_pass { (s : Sheet) (n : ℕ) (cell : Cell) (cells : List Cell) (place : Place)
+        → s.literal ≡ false → 0 < length s.cells → length s.cells + n ≤ CELLS
+        → s.width < s.margin + open_rows.columns s.cells + n → 0 < n → length (cell ∷ cells) ≤ CELLS
+        → one_word s (row.word_of_cells n (cell ∷ cells) place)
+        ≡ row.word_wrapped s (row.fitting s) (cell ∷ cells) }
+    ensures first { (s : Sheet) (n : ℕ) (cell : Cell) (cells : List Cell) (place : Place)
+        → length s.cells ≡ 0 → length (cell ∷ cells) ≤ CELLS
+        → one_word s (row.word_of_cells n (cell ∷ cells) place)
+        ≡ nothing (row.word_first s (cell ∷ cells)) }
 {}
 
 /// A row takes the next part of its last word where margin and columns stay within the width; else the row ends before that part, which
@@ -74,7 +75,7 @@ pub fn part_law()
         → is_printable_ascii part ≡ true → 0 < length part → length e.sheet.cells + length part ≤ CELLS
         → e.sheet.margin + open_rows.columns e.sheet.cells + length part ≤ e.sheet.width
         → filling.filled e (shown Split ∷ shown (Text part font place) ∷ [])
-        ≡ edges.next_edge e e.word (nothing (row.with_word (edges.open_row_of e.sheet) 0 (cells_of font part))) }
+        ≡ edges.next_edge e e.word (nothing (row.with_word e.sheet 0 (cells_of font part))) }
     ensures passes { (e : FillEdge) (part : List ℕ) (font : Font) (place : Place)
         → e.word.is_joined ≡ true → e.sheet.literal ≡ false → 0 < length e.sheet.cells
         → is_printable_ascii part ≡ true → 0 < length part → length e.sheet.cells + length part ≤ CELLS
@@ -82,7 +83,7 @@ pub fn part_law()
         → e.sheet.width < e.sheet.margin + open_rows.columns e.sheet.cells + length part
         → filling.filled e (shown Split ∷ shown (Text part font place) ∷ [])
         ≡ edges.next_edge e e.word
-        (row.word_wrapped (edges.frame_of e.sheet) (edges.open_row_of e.sheet) 0 (cells_of font part)) }
+        (row.word_wrapped e.sheet 0 (cells_of font part)) }
     ensures whole { (e : FillEdge) (a b : List ℕ) (font : Font) (place : Place)
         → e.word.is_joined ≡ false → e.word.has_tab ≡ false → e.sheet.literal ≡ false → 0 < length e.sheet.cells
         → is_printable_ascii a ≡ true → 0 < length a → is_printable_ascii b ≡ true → 0 < length b
@@ -90,7 +91,7 @@ pub fn part_law()
         → e.sheet.margin + open_rows.columns e.sheet.cells + e.word.blanks + length a + length b ≤ e.sheet.width
         → filling.filled e (shown (Text a font place) ∷ shown Split ∷ shown (Text b font place) ∷ [])
         ≡ edges.next_edge e (edges.begun_word false) (nothing (row.with_word
-        (row.with_word (edges.open_row_of e.sheet) e.word.blanks (cells_of font a)) 0 (cells_of font b))) }
+        (row.with_word e.sheet e.word.blanks (cells_of font a)) 0 (cells_of font b))) }
     ensures cut { (e : FillEdge) (a b : List ℕ) (font : Font) (place : Place)
         → e.word.is_joined ≡ false → e.word.has_tab ≡ false → e.sheet.literal ≡ false → 0 < length e.sheet.cells
         → is_printable_ascii a ≡ true → 0 < length a → is_printable_ascii b ≡ true → 0 < length b
@@ -98,6 +99,6 @@ pub fn part_law()
         → e.sheet.margin + open_rows.columns e.sheet.cells + e.word.blanks + length a ≤ e.sheet.width
         → e.sheet.width < e.sheet.margin + open_rows.columns e.sheet.cells + e.word.blanks + length a + length b
         → filling.filled e (shown (Text a font place) ∷ shown Split ∷ shown (Text b font place) ∷ [])
-        ≡ edges.next_edge e (edges.begun_word false) (row.word_wrapped (edges.frame_of e.sheet)
-        (row.with_word (edges.open_row_of e.sheet) e.word.blanks (cells_of font a)) 0 (cells_of font b)) }
+        ≡ edges.next_edge e (edges.begun_word false) (row.word_wrapped
+        (row.with_word e.sheet e.word.blanks (cells_of font a)) 0 (cells_of font b)) }
 {}
