@@ -6,8 +6,8 @@ use Rattle.page_core_base.specs.declared.limits.TheConstants.{EXPAND, REREAD}
 use Rattle.page_roff_source.specs.laws.Views.{EachIsWithin}
 use Rattle.page_roff_source.proofs.CountLemmas.{lines_bound, lines_expansions, each_bound}
 use Rattle.page_engine.specs.Edges.{Edge}
-use Rattle.page_engine.specs.laws.Views.{counts_at}
-use Rattle.page_engine.specs.Page.{edge, page, raw, raw_lines, settled}
+use Rattle.page_engine.specs.laws.Views.{counts_at, raw}
+use Rattle.page_engine.specs.Page.{edge, page, raw_lines, settled}
 
 pub source_more : (e : Edge) (lines : List Line) → (counts_at (edge e lines)).source ≡ (counts_at e).source + length lines
 unfolding settled

@@ -19,8 +19,8 @@ use Rattle.page_engine_lines.specs.Acts.{lines_items, lines_after}
 use Rattle.page_engine_lines.specs.Edges.{LinesEdge, footer_items}
 use Rattle.page_engine_lines.specs.machine.Lines.{source_items, source_after, end_items}
 use Rattle.page_engine_lines.proofs.TreeLemmas.{lines_items-append, lines_after-append, one_items, one_after, no_items, none_after, end_items_after}
-use Rattle.page_engine.specs.Page.{reported, worst_of, of_page, raw, raw_lines, last_number, after, settled, edge, page, footer_laid}
-use Rattle.page_engine.specs.laws.Views.{reported-append, worst_of-append, IsReached, counts_at, text_line, shown_rows-append, shown_rows-nil}
+use Rattle.page_engine.specs.Page.{reported, worst_of, of_page, raw_lines, last_number, after, settled, edge, page, footer_laid}
+use Rattle.page_engine.specs.laws.Views.{reported-append, worst_of-append, IsReached, counts_at, raw, text_line, shown_rows-append, shown_rows-nil}
 use Rattle.page_engine.specs.Edges.{Edge, last_line, start}
 use Rattle.page_engine.specs.machine.ByLine as by_line
 use Rattle.page_engine.proofs.Fixed.{filled_fixed}

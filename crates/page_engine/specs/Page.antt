@@ -55,12 +55,9 @@ of_page e next l = record {
 
 -- ---- lines
 
--- a line as roff takes it: the messages of its cutting are before what it gives
-abbrev pub raw : Line → SourceLine
-raw line = raw_line line.number line.text line.notes
-
+-- lines as roff takes them: the messages of the cutting of each are before what it gives
 abbrev pub raw_lines : List Line → List SourceLine
-raw_lines lines = map raw lines
+raw_lines lines = map (λ (line : Line). raw_line line.number line.text line.notes) lines
 
 -- the number of the last of them, or of the one before them
 abbrev pub last_number : Option ℕ → List Line → Option ℕ

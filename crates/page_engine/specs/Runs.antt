@@ -92,10 +92,9 @@ Runs result streams rows_before rows_after notes_before notes_after settings byt
 abbrev pub BrokeIn : {R N : Type 0} → Streams R N → R → R → N → N → PageSettings → (before own left : List ℕ) → Type 0
 BrokeIn streams rows_before rows_after notes_before notes_after settings before own left =
     let edge = (settled_page settings before).edge in
-    ((length (lines_made settings.encoding before own) ≤ 1)
-    × FrontCame streams rows_before rows_after notes_before notes_after (settled edge (lines_made settings.encoding before own)))
-    ⊎ ((own ≡ []) × (left ≡ [])
-    × FrontCame streams rows_before rows_after notes_before notes_after (page edge (line_left settings.encoding before)))
+    let front : Laid Edge → Type 0 = λ laid. FrontCame streams rows_before rows_after notes_before notes_after laid in
+    ((length (lines_made settings.encoding before own) ≤ 1) × front (settled edge (lines_made settings.encoding before own)))
+    ⊎ ((own ≡ []) × (left ≡ []) × front (page edge (line_left settings.encoding before)))
 
 -- a sink failed: what the bytes before a line settle came whole, then came a front of that line, and nothing
 -- of the bytes that are left; no more was read than the chunk with the line's last byte, at most 2^14 bytes

@@ -11,10 +11,11 @@ use Rattle.page_core_base.specs.declared.faults.Fault.TheVariants.{Memory, Write
 use Rattle.page_core_base.specs.declared.note_kinds.Level.{Level}
 use Rattle.page_core_base.specs.declared.page_settings.Settings.{Settings as PageSettings}
 use Rattle.page_roff_lines.specs.Lines.{Line}
-use Rattle.page_roff_source.specs.Runs.{counts_of}
+use Rattle.page_roff_source.specs.Runs.{counts_of, SourceLine}
 use Rattle.page_roff_source.specs.declared.counts.Counts.{Counts}
 use Rattle.page_fill_rows.specs.laws.Views.{IsHeld}
 use Rattle.page_fill.specs.laws.Views.{is_sound}
+use Rattle.page_engine_lines.specs.Acts.{raw_line}
 use Rattle.page_engine.specs.Edges.{Edge, start}
 use Rattle.page_engine.specs.Page.{shown_rows, is_reported_level, reported, worse, worst_of}
 use Rattle.page_engine.specs.Runs.{AllCame, Sinks, FrontCame, whole_page, settled_page, Whole, Streams}
@@ -122,6 +123,10 @@ pub filter-whole : {S N : Type 0} (ng nw : N → List Message → N → Type 0) 
     → (below : S → N) (least worst : S → Option Level) (s t : S) (xs : List Message)
     → FilterGave ng below least worst s xs t → FilterWithin nw below least s xs t
 filter-whole ng nw whole below least worst s t xs g = whole (below s) (below t) (reported (least s) xs) g.0
+
+-- a line as roff takes it
+abbrev pub raw : Line → SourceLine
+raw line = raw_line line.number line.text line.notes
 
 -- a line without a message of its cutting
 abbrev pub text_line : List ℕ → ℕ → Line
