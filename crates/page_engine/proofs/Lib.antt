@@ -4,6 +4,7 @@ pub mod Feeds
 pub mod Cuts
 pub mod Phases
 pub mod Lists
+pub mod Agreements
 pub mod WholeLines
 pub mod TextBytes
 pub mod Cutting

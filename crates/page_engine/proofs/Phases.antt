@@ -1,5 +1,5 @@
 -- What a call on the layers did, as it is said of the page.
-use Rattle.std.proofs.Common.{◌≡◌, ℕ, ◌<◌, ◌-◌, ◌^◌, Some, refl, sym, ap, ◌∙◌, arith}
+use Rattle.std.proofs.Common.{◌≡◌, ℕ, ◌<◌, ◌-◌, ◌^◌, Some, refl, sym, ap, ◌∙◌, arith, Result, Ok, Err, MatchResult, IfOk}
 use Rattle.std.proofs.Math.Path.{subst}
 use Rattle.page_core_base.specs.Messages.{IsSinkFault}
 use Rattle.page_core_base.specs.declared.faults.Fault.{Fault}
@@ -33,6 +33,11 @@ edge_is p f e at h = some_same f e (sym (edge_at p f at) ∙ h)
 
 pub within_is : (p : Layers) (f e : Edge) → IsAt p f → edge_of p ≡ Some e → IsWithin f → IsWithin e
 within_is p f e at h fits = subst (λ (x : Edge). IsWithin x) (edge_is p f e at h) fits
+
+-- and so is what was copied of it
+pub within_held : (res : Result Edge Fault) (e : Edge) → MatchResult res (λ x. x ≡ e) (λ fault. fault ≡ faults.Memory) → IsWithin e → IfOk res IsWithin
+within_held (Ok x) e same fits = subst (λ (y : Edge). IsWithin y) (sym same) fits
+within_held (Err fault) e same fits = tt
 
 -- the layers of a page that is open at an edge
 pub open_layers : {now : PageState} {phase : Phase} {counts : Counts} (layers : Layers) (e : Edge) → IsKept phase counts layers

@@ -23,7 +23,8 @@ use Rattle.page_engine.specs.Page.{reported, worst_of, of_page, raw_lines, last_
 use Rattle.page_engine.specs.laws.Views.{reported-append, worst_of-append, IsReached, counts_at, raw, text_line, shown_rows-append, shown_rows-nil}
 use Rattle.page_engine.specs.Edges.{Edge, last_line, start}
 use Rattle.page_engine.specs.machine.ByLine as by_line
-use Rattle.page_engine.proofs.Fixed.{filled_fixed}
+use Rattle.page_engine.proofs.Agreements.{start_agrees, lines_agree}
+use Rattle.page_engine.proofs.Fixed.{filled_fixed, output_kept}
 
 -- ---- one thing after another, by levels
 
@@ -62,13 +63,13 @@ items-append e xs ys = ap (λ (l : List SourceLine). lines_items e l) (map-appen
 -- ---- the edges that a page comes to
 
 pub start_reached : (s : Settings) → IsReached (start s)
-start_reached s = record { row = fresh-held s.width; word = refl; line = refl }
+start_reached s = record { agrees = start_agrees s; row = fresh-held s.width; word = refl; line = refl }
 
 pub reached : (e : Edge) (lines : List Line) → IsReached e → IsReached (edge e lines)
 unfolding settled
 reached e lines r =
     let h = held-law e.fill (lines_items e.lines (raw_lines lines)) r.row r.word in
-    record { row = h.0; word = h.1; line = refl }
+    record { agrees = lines_agree e lines r.line r.agrees; row = h.0; word = h.1; line = refl }
 
 -- in them roff and the body are where the lines leave these
 pub lines_edge : (e : Edge) (lines : List Line) → (edge e lines).lines ≡ lines_after e.lines (raw_lines lines)
@@ -98,7 +99,7 @@ settled-append e xs ys r =
     let f = edge e xs in
     ap (λ (l : List Item). of_page e (after e (xs ++ ys)) (filled e.fill l)) (items-append lines xs ys)
     ∙ ap (λ (l : Laid FillEdge). of_page e (after e (xs ++ ys)) l) (cut-law e.fill above below r.row r.word)
-    ∙ of_page-join e (after e xs) (after e (xs ++ ys)) a b (filled_fixed e.fill above) refl
+    ∙ of_page-join e (after e xs) (after e (xs ++ ys)) a b (output_kept a.edge e.fill (filled_fixed e.fill above)) refl
     ∙ ap (λ (l : Laid Edge). join (of_page e (after e xs) a) l)
     (of_page-moved f f _ _ (lines_after lines (raw_lines (xs ++ ys))) (lines_after next (raw_lines ys)) b (last_number-append e.last xs ys) (after-append lines xs ys))
 
@@ -172,7 +173,7 @@ page_is e lines r =
     ap (λ (l : List Item). of_page e f (seq (filled e.fill l) (λ h. footer_laid f h))) (end_items_after e.lines (raw_lines lines) n)
     ∙ ap (λ (l : Laid FillEdge). of_page e f (seq l (λ h. footer_laid g h))) (cut-law e.fill above end r.row r.word)
     ∙ ap (λ (l : Laid FillEdge). of_page e f l) (join_assoc a z w)
-    ∙ of_page-join e f f a (join z w) (filled_fixed e.fill above) refl
+    ∙ of_page-join e f f a (join z w) (output_kept a.edge e.fill (filled_fixed e.fill above)) refl
     ∙ ap (λ (l : Laid Edge). join (of_page e f a) l) (of_page-same g f g (join z w) refl refl refl)
 
 pub page-append : (e : Edge) (xs ys : List Line) → IsReached e → page e (xs ++ ys) ≡ join (settled e xs) (page (edge e xs) ys)

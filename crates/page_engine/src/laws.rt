@@ -13,7 +13,7 @@ ghost use Rattle.page_engine.specs.laws.Views.{IsReached, counts_at};
 ghost use Rattle.page_engine.specs.Page.{settled, edge, page, raw_lines};
 ghost use Rattle.page_engine.specs.laws.Within.{IsWithin, text_bytes};
 
-/// The edges that a page comes to: the one of its start, and from each such edge the one that lines leave.
+/// The edges that a page comes to: the one of its start, and from each such edge the one that lines leave. Its layers agree in what they share.
 pub fn reached_law()
     ensures start { (s : Settings) → IsReached (start s) }
     ensures lines { (e : Edge) (lines : List Line) → IsReached e → IsReached (edge e lines) }

@@ -4,6 +4,7 @@ pub mod MarkedPieces
 pub mod SoundWords
 pub mod GlueLaw
 pub mod WordLaw
+pub mod Widths
 pub mod PartLaw
 pub mod Examples
 pub mod FilledWords

@@ -1,7 +1,7 @@
 -- What contracts of the code say by the definitions, and what is proved of these.
 use Rattle.std.proofs.Common.{◌∙◌}
 use Rattle.std.proofs.lemmas.List.Elements.{filter-append}
-use Rattle.std.specs.Prelude.{◌≡◌, true, Bool, List, ◌++◌, refl, false, [], Option, None, ◌∷◌, ℕ, ◌<◌, ◌-◌, ◌^◌, length, take, Some, Result, MatchResult}
+use Rattle.std.specs.Prelude.{◌≡◌, true, Bool, List, ◌++◌, refl, false, [], Option, None, unwrap_or, ◌∷◌, ℕ, ◌<◌, ◌-◌, ◌^◌, length, take, Some, Result, MatchResult}
 use Rattle.page_core_base.specs.Messages.{Message, level_of, IsSinkFault}
 use Rattle.page_core_base.specs.Rows.{LaidRow, Laid, nothing}
 use Rattle.page_core_base.specs.Settings.{IsGood, IsFirst}
@@ -15,7 +15,9 @@ use Rattle.page_roff_source.specs.Runs.{counts_of, SourceLine}
 use Rattle.page_roff_source.specs.declared.counts.Counts.{Counts}
 use Rattle.page_fill_rows.specs.laws.Views.{IsHeld}
 use Rattle.page_fill.specs.laws.Views.{is_sound}
+use Rattle.page_engine_header.specs.declared.headers.Measure.{Measure}
 use Rattle.page_engine_lines.specs.Acts.{raw_line}
+use Rattle.page_engine_lines.specs.Bodies.{indent_of}
 use Rattle.page_engine.specs.Edges.{Edge, start}
 use Rattle.page_engine.specs.Page.{shown_rows, is_reported_level, reported, worse, worst_of}
 use Rattle.page_engine.specs.Runs.{AllCame, Sinks, FrontCame, whole_page, settled_page, Whole, Streams}
@@ -25,8 +27,22 @@ use Rattle.page_engine.specs.declared.runs.Outcome.{Outcome}
 abbrev pub counts_at : Edge → Counts
 counts_at e = counts_of e.lines.roff
 
--- what holds at each edge that a page comes to: the open row and the open word hold together, and nothing of a line is still to come
+-- the measure of rows: the width and the output of the filler, and the indent of the settings, else that of the set of macros
+abbrev pub measure_of : Edge → Measure
+measure_of e =
+    record { width = e.fill.sheet.width; indent = indent_of e.lines.body.header.indent e.lines.body.header.set; output = e.fill.output }
+
+-- what roff, the body and the filler hold alike: the number of the last line, 0 where none came; the output, the width of rows, and the indent
+pub record Agrees (e : Edge) : Type 0 where
+  pub number : e.lines.roff.memory.number ≡ unwrap_or e.last 0
+  pub output : e.lines.roff.output ≡ e.fill.output
+  pub measure : e.lines.body.header.measure ≡ measure_of e
+  pub scopes_indent : e.lines.body.scopes.state.page.indent ≡ (measure_of e).indent
+  pub scopes_output : e.lines.body.scopes.state.page.output ≡ e.fill.output
+
+-- what holds at each edge that a page comes to: its layers agree; the open row and the open word hold together, and nothing of a line is still to come
 pub record IsReached (e : Edge) : Type 0 where
+  pub agrees : Agrees e
   pub row : IsHeld e.fill.sheet
   pub word : is_sound e.fill.word ≡ true
   pub line : e.lines.roff.to_come ≡ None

@@ -4,7 +4,7 @@ use Rattle.page_engine_lines.specs.machine.Lines.{source_items}
 use Rattle.page_fill.specs.machine.ByPiece.{laid_items}
 use Rattle.page_engine.specs.machine.ByLine.{settled_text, passed}
 use Rattle.page_engine.specs.Page.{is_silent}
-use Rattle.page_engine.proofs.Fixed.{items_fixed}
+use Rattle.page_engine.proofs.Fixed.{items_fixed, output_kept}
 use Rattle.page_engine.proofs.Feeds.{passes_gets, passes_edge, passes_faults}
 use Rattle.page_engine.proofs.layers.Layers.feed.Goals as goal
 
@@ -38,4 +38,4 @@ returns-clause-edge g c = λ e h.
     passes_edge g.R.RowSink.gave g.R.RowSink.within (λ s. g.R.RowSink.failed s.rows.now) (λ s. s.rows.now) (λ s. s.is_silent) g.N.NoteSink.gave g.N.NoteSink.within (λ s. g.N.NoteSink.failed s.notes.now)
     (λ s. s.notes.now) (λ s. s.least) (λ s. s.worst) c.line-result.result _ _ _ _ _ _ (λ f. laid_items f (source_items e.lines c.args.number c.args.text.now))
     e (passed e c.args.text.now c.args.number) _ _ _ _ h.filled h.levels h.worst_level x y
-    (h.output ∙ sym (items_fixed e.fill items)) h.levels refl
+    (h.output ∙ sym (output_kept (laid_items e.fill items).edge e.fill (items_fixed e.fill items))) h.levels refl
