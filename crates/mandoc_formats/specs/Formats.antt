@@ -1,9 +1,8 @@
 -- What the pages of a command come to. Source: mandoc(1), DESCRIPTION, DIAGNOSTICS, EXIT STATUS.
-use Rattle.std.specs.Prelude.{◌≡◌, ℕ, ◌<◌, Bool, true, false, List, [], ◌∷◌, ◌++◌, ⊤, max, codes, decimal, encode_utf8, Option, Some, None, Result, Err, IsOk, MatchResult, ◌⊎◌, if◌then◌else◌}
+use Rattle.std.specs.Prelude.{◌≡◌, ℕ, ◌<◌, Bool, true, false, List, [], ◌∷◌, ◌++◌, codes, decimal, encode_utf8, Option, Some, None, Result, Err, IsOk, MatchResult, ◌⊎◌, if◌then◌else◌}
 use Rattle.std.specs.Str.{chars}
 use Rattle.std.specs.List.{flat_map}
 use Rattle.std.specs.Io.KnownBytes.{Consumes}
-use Rattle.std.specs.Bool.{MatchBool}
 use Rattle.page_core_base.specs.declared.faults.Fault.{Fault}
 use Rattle.page_core_base.specs.declared.faults.Fault.TheVariants as fault
 use Rattle.page_core_base.specs.declared.page_settings.SettingFault.TheVariants as setting
@@ -15,12 +14,16 @@ use Rattle.page_engine.specs.declared.runs.Outcome.{Outcome}
 use Rattle.page_engine.specs.Runs.{writers, Runs}
 use Rattle.mandoc_command.specs.Status.{status}
 use Rattle.mandoc_formats.specs.ShownNames.{is_hidden}
+use Rattle.mandoc_formats.specs.Turns.{Came, InTurn, does_stop, worse}
 use Rattle.mandoc_formats.specs.declared.faults.Done.{Done}
 
 -- ---- lines about files
 
+abbrev pub line_end : List ℕ → List ℕ → List ℕ
+line_end name text = name ++ (codes ": " ++ (text ++ 10 ∷ []))
+
 abbrev pub line_about : List ℕ → List ℕ → List ℕ
-line_about name text = codes "mandoc: " ++ (name ++ (codes ": " ++ (text ++ 10 ∷ [])))
+line_about name text = codes "mandoc: " ++ line_end name text
 
 abbrev pub fault_text : Fault → List ℕ
 fault_text fault.Memory = codes "out of memory"
@@ -79,12 +82,9 @@ IsReported end result = (end ≡ result) ⊎ (IsOk end × ((result ≡ Err fault
 
 -- ---- a file
 
--- what came of a file: its bytes to the output and beside it, its status, and whether it ends the command
-pub record File : Type 0 where
-  pub out : List ℕ
-  pub err : List ℕ
-  pub status : ℕ
-  pub stops : Bool
+-- what came of a file, or of several: its status, and whether it ends the command
+abbrev pub File : Type 0
+File = Came Done
 
 -- a page was formatted under a name, and its fault reported
 pub record Formatted (settings : PageSettings) (name : List ℕ) (before : Option (List ℕ)) (file : File) : Type 0 where
@@ -95,16 +95,16 @@ pub record Formatted (settings : PageSettings) (name : List ℕ) (before : Optio
   pub ended : IsReported page.end result
   pub out : file.out ≡ page_out settings.output page
   pub told : MatchResult result
-      (λ outcome. (file.err ≡ page_err settings.output page) × (file.status ≡ status outcome.worst) × (file.stops ≡ false))
+      (λ outcome. (file.err ≡ page_err settings.output page) × (file.end.status ≡ status outcome.worst) × (file.end.stops ≡ false))
       (λ fault. ((line : List ℕ) × (file.err ≡ page_err settings.output page ++ line) × Front line (fault_line name fault))
-      × (file.status ≡ 6) × (file.stops ≡ stops_after fault))
+      × (file.end.status ≡ 6) × (file.end.stops ≡ stops_after fault))
 
 -- no file could be opened
 pub record Unopened (name : List ℕ) (file : File) : Type 0 where
   pub out : file.out ≡ []
   pub err : Front file.err (unopened_line name)
-  pub status : file.status ≡ 6
-  pub goes_on : file.stops ≡ false
+  pub status : file.end.status ≡ 6
+  pub goes_on : file.end.stops ≡ false
 
 -- each hidden character is a question mark
 abbrev pub shown : List ℕ → List ℕ
@@ -114,8 +114,8 @@ shown name = flat_map (λ c. encode_utf8 (if is_hidden c then 63 else c)) (chars
 pub record Unnamed (name : List ℕ) (file : File) : Type 0 where
   pub out : file.out ≡ []
   pub err : Front file.err (fault_line name fault.Memory)
-  pub status : file.status ≡ 6
-  pub goes_on : file.stops ≡ false
+  pub status : file.end.status ≡ 6
+  pub goes_on : file.end.stops ≡ false
 
 -- what was found under a name: none that can be opened, or a file with its bytes, of which this came
 abbrev pub IsFound : (finds : List ℕ → Option (Option (List ℕ)) → Type 0) → (is : Option (List ℕ) → File → Type 0) → (name shown : List ℕ) → File → Type 0
@@ -126,33 +126,11 @@ IsFile finds settings name file = Unnamed (shown name) file ⊎ IsFound finds (F
 
 -- ---- the files of a command
 
--- what came of each, in their order, up to one that ends the command
-unfoldable pub Come : (is : List ℕ → File → Type 0) → (names : List (List ℕ)) → List File → Type 0
-Come is [] [] = ⊤
-Come is [] (file ∷ files) = ⊥
-Come is (name ∷ names) [] = ⊥
-Come is (name ∷ names) (file ∷ files) = is name file × MatchBool file.stops (files ≡ []) (Come is names files)
-
-abbrev pub out_of : List File → List ℕ
-out_of = flat_map (λ file. file.out)
-
-abbrev pub err_of : List File → List ℕ
-err_of = flat_map (λ file. file.err)
-
--- the worst status
-unfoldable pub worst_of : List File → ℕ
-worst_of [] = 0
-worst_of (file ∷ files) = max file.status (worst_of files)
-
--- no files: the standard input is formatted
-unfoldable pub FormatsAll : (finds : List ℕ → Option (Option (List ℕ)) → Type 0) → PageSettings → (names : List (List ℕ)) → (input : Option (List ℕ)) → List File → Type 0
-FormatsAll finds settings [] input files = (file : File) × (files ≡ file ∷ []) × Formatted settings (codes "<stdin>") input file
-FormatsAll finds settings (name ∷ names) input files = Come (IsFile finds settings) (name ∷ names) files
-
--- these came to two streams
-pub record Gave (out_before out_after err_before err_after : Option (List ℕ)) (files : List File) : Type 0 where
-  pub out : Grows out_before out_after (out_of files)
-  pub err : Grows err_before err_after (err_of files)
+-- of each in turn; no files: the standard input is formatted
+unfoldable pub FormatsAll : (finds : List ℕ → Option (Option (List ℕ)) → Type 0) → PageSettings → (names : List (List ℕ)) → (input : Option (List ℕ)) → File → Type 0
+FormatsAll finds settings [] input file = Formatted settings (codes "<stdin>") input file
+FormatsAll finds settings (name ∷ names) input file =
+    InTurn worse does_stop (IsFile finds settings) (name ∷ names) (record { out = []; err = []; end = record { status = 0; stops = false } }) file
 
 -- a status below that of a failure: nothing waits to be put out
 abbrev pub IsPutOut : ℕ → (out_waits err_waits : List ℕ) → Type 0
@@ -160,5 +138,5 @@ IsPutOut status out_waits err_waits = status < 6 → (out_waits ≡ []) × (err_
 
 -- what one file came to, and what is known below that status
 abbrev pub Did : (is : File → Type 0) → Done → (out_before out_after err_before err_after : Option (List ℕ)) → (put_out : Type 0) → Type 0
-Did is done out_before out_after err_before err_after put_out = (file : File) × is file × Gave out_before out_after err_before err_after (file ∷ [])
-    × (done.status ≡ file.status) × (done.stops ≡ file.stops) × (done.status < 6 → put_out)
+Did is done out_before out_after err_before err_after put_out =
+    (file : File) × is file × Grows out_before out_after file.out × Grows err_before err_after file.err × (file.end ≡ done) × (done.status < 6 → put_out)

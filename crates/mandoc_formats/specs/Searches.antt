@@ -59,8 +59,8 @@ pub record Searched (asked : Asked) (name : List ℕ) (before : Option (List ℕ
   pub ended : IsAnswered search.end result
   pub out : file.out ≡ search.rows
   pub told : MatchResult result
-      (λ count. (file.err ≡ []) × (file.status ≡ (if count == 0 then 1 else 0)))
-      (λ fault. Front file.err (fault_line name fault) × (file.status ≡ 6))
+      (λ count. (file.err ≡ []) × (file.end.status ≡ (if count == 0 then 1 else 0)))
+      (λ fault. Front file.err (fault_line name fault) × (file.end.status ≡ 6))
 
 -- ---- a command
 

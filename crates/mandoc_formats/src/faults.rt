@@ -1,12 +1,13 @@
 //! What is reported of files that fail, and how a run goes on after that (mandoc(1), DIAGNOSTICS and EXIT STATUS).
 
-ghost use Rattle.std.specs.Prelude.{◌≡◌, ◌++◌, false, codes};
+ghost use Rattle.std.specs.Prelude.{◌≡◌, ◌++◌, [], false, codes};
 ghost use Rattle.page_core_streams.specs.Streams.{GrowsInto};
 ghost use Rattle.page_core_streams.specs.laws.Views.{Writes};
-ghost use Rattle.page_core_base.specs.declared.faults.Fault.TheVariants.{Memory};
-ghost use Rattle.mandoc_formats.specs.Formats.{fault_text, stops_after, fault_line, unopened_line, line_about, shown};
+ghost use Rattle.mandoc_formats.specs.Formats.{fault_text, stops_after, fault_line, unopened_line, line_about, line_end, shown};
+ghost use Rattle.mandoc_formats.specs.Indexes.{compressed_in, compressed_line, compressed_text};
 
 use crate::names::put_name;
+use crate::pages::Tally;
 use crate::waiting::Buffered;
 use itoa::Buffer;
 use page_core_base::{Fault, SettingFault};
@@ -36,18 +37,137 @@ impl Done {
     }
 }
 
+/// Reports a file that can't be opened. It is passed over, and the next one goes on, also where that line can't be printed.
+pub fn report_unopened<V: Buffered>(err: &mut V, shown: &str) -> Done
+    ensures line { GrowsInto (V.contents err.old) (V.contents err.new) (unopened_line shown.now) }
+    ensures status { result.status ≡ 6 }
+    ensures goes_on { result.stops ≡ false }
+{
+    err.put_through(&[b"mandoc: ", shown.as_bytes(), b": cannot open\n"]);
+    Done::with(SYSTEM_FAILURE)
+}
+
+/// Reports a fault at a file that messages have by another name. After one of writing nothing further can be written.
+pub(crate) fn report_fault<V: Buffered>(err: &mut V, shown: &str, fault: Fault) -> Done
+    ensures line { GrowsInto (V.contents err.old) (V.contents err.new) (fault_line shown.now fault) }
+    ensures status { result.status ≡ 6 }
+    ensures stops { result.stops ≡ stops_after fault }
+{
+    put_fault(err, shown, fault);
+    failed_by(fault)
+}
+
+/// Reports a fault at what has a name below `dir`, or at `dir` itself, with no memory of its own.
+pub(crate) fn report_fault_at<V: Buffered>(err: &mut V, dir: &str, name: &str, fault: Fault) -> Done
+    ensures line { GrowsInto (V.contents err.old) (V.contents err.new) (fault_line (shown dir.now ++ name.now) fault) }
+    ensures status { result.status ≡ 6 }
+    ensures stops { result.stops ≡ stops_after fault }
+{
+    put_fault_at(err, dir, name, fault);
+    failed_by(fault)
+}
+
+/// Says how many pages of a directory are compressed, if some are.
+pub(crate) fn report_compressed<V: Buffered>(err: &mut V, dir: &str, given: Result<Tally, Fault>)
+    ensures { GrowsInto (V.contents err.old) (V.contents err.new) (compressed_in (shown dir.now) given) }
+{
+    if let Ok(tally) = given {
+        put_compressed(err, dir, tally.compressed);
+    }
+}
+
+// What a fault leaves.
+fn failed_by(fault: Fault) -> Done
+    ensures status { result.status ≡ 6 }
+    ensures stops { result.stops ≡ stops_after fault }
+{
+    Done {
+        status: SYSTEM_FAILURE,
+        stops: matches!(fault, Fault::WriteText | Fault::WriteNotes),
+    }
+}
+
 // Writes the line about a fault at a file; else a front of it was written.
+#[tactic(auto, using(crate::proofs::Waits::writes_on, crate::proofs::Waits::ended_before))]
 fn put_fault<V: Buffered>(err: &mut V, shown: &str, fault: Fault) -> bool
-    ensures { GrowsInto (V.contents err.old) (V.contents err.new) (fault_line shown.now fault) }
+    ensures { Writes result (V.contents err.old) (V.contents err.new) (fault_line shown.now fault) }
+{
+    if err.put_through(&[b"mandoc: "]) {
+        return put_end(err, shown, fault);
+    }
+    false
+}
+
+// Writes the line about a fault at what has a name below a directory.
+fn put_fault_at<V: Buffered>(err: &mut V, dir: &str, name: &str, fault: Fault) -> bool
+    ensures { Writes result (V.contents err.old) (V.contents err.new) (fault_line (shown dir.now ++ name.now) fault) }
+{
+    if put_front(err, dir) {
+        return put_end(err, name, fault);
+    }
+    false
+}
+
+/// Writes a line about what has a name; else a front of it was written.
+#[tactic(auto, using(crate::proofs::Waits::writes_on, crate::proofs::Waits::ended_before))]
+pub(crate) fn put_line_at<V: Buffered>(err: &mut V, name: &str, text: &str) -> bool
+    ensures { Writes result (V.contents err.old) (V.contents err.new) (line_about (shown name.now) text.now) }
+{
+    if put_front(err, name) {
+        return err.put_through(&[b": ", text.as_bytes(), b"\n"]);
+    }
+    false
+}
+
+// Writes the line about pages that are compressed.
+#[tactic(auto, using(crate::proofs::Waits::writes_on, crate::proofs::Waits::ended_before))]
+fn put_compressed<V: Buffered>(err: &mut V, dir: &str, count: u64) -> bool
+    ensures { Writes result (V.contents err.old) (V.contents err.new) (compressed_line (shown dir.now) count) }
+{
+    if count == 0 {
+        return true;
+    }
+    if put_front(err, dir) {
+        return put_count(err, count);
+    }
+    false
+}
+
+// Writes the end of that line.
+fn put_count<V: Buffered>(err: &mut V, count: u64) -> bool
+    ensures { Writes result (V.contents err.old) (V.contents err.new) (line_end [] (compressed_text count)) }
+{
+    if count == 1 {
+        return err.put_through(&[b": 1 compressed page passed over\n"]);
+    }
+    let mut digits = Buffer::new();
+    let digits = digits.format(count);
+    err.put_through(&[b": ", digits.as_bytes(), b" compressed pages passed over\n"])
+}
+
+// Writes the front of a line, up to a name.
+#[tactic(auto, using(crate::proofs::Waits::writes_on, crate::proofs::Waits::ended_before))]
+fn put_front<V: Buffered>(err: &mut V, name: &str) -> bool
+    ensures { Writes result (V.contents err.old) (V.contents err.new) (codes "mandoc: " ++ shown name.now) }
+{
+    if err.put_through(&[b"mandoc: "]) {
+        return put_name(err, name);
+    }
+    false
+}
+
+// Writes the end of the line about a fault, from a name on.
+fn put_end<V: Buffered>(err: &mut V, name: &str, fault: Fault) -> bool
+    ensures { Writes result (V.contents err.old) (V.contents err.new) (line_end name.now (fault_text fault)) }
 {
     match fault {
-        Fault::Memory => put_line(err, shown, "out of memory"),
-        Fault::Read => put_line(err, shown, "cannot read"),
-        Fault::WriteText | Fault::WriteNotes => put_line(err, shown, "cannot write"),
-        Fault::TooLong => put_line(err, shown, "input too large"),
-        Fault::Settings(setting) => put_line(err, shown, setting_text(setting)),
-        Fault::BadIndex(line) => put_bad_line(err, shown, line),
-        Fault::Failed | Fault::Ended => put_line(err, shown, "failed before"),
+        Fault::Memory => put_text(err, name, "out of memory"),
+        Fault::Read => put_text(err, name, "cannot read"),
+        Fault::WriteText | Fault::WriteNotes => put_text(err, name, "cannot write"),
+        Fault::TooLong => put_text(err, name, "input too large"),
+        Fault::Settings(setting) => put_text(err, name, setting_text(setting)),
+        Fault::BadIndex(line) => put_bad_line(err, name, line),
+        Fault::Failed | Fault::Ended => put_text(err, name, "failed before"),
     }
 }
 
@@ -62,77 +182,22 @@ fn setting_text(setting: SettingFault) -> &'static str
     }
 }
 
-// Writes the line about a bad line of an index; else a front of it was written.
-fn put_bad_line<V: Buffered>(err: &mut V, shown: &str, line: u32) -> bool
-    ensures { GrowsInto (V.contents err.old) (V.contents err.new) (fault_line shown.now (Fault.BadIndex line)) }
+// Writes that end about a bad line of an index.
+fn put_bad_line<V: Buffered>(err: &mut V, name: &str, line: u32) -> bool
+    ensures { Writes result (V.contents err.old) (V.contents err.new) (line_end name.now (fault_text (Fault.BadIndex line))) }
 {
     let mut digits = Buffer::new();
     err.put_through(&[
-        b"mandoc: ",
-        shown.as_bytes(),
+        name.as_bytes(),
         b": line ",
         digits.format(line).as_bytes(),
         b": bad index\n",
     ])
 }
 
-/// Reports a file that can't be opened. It is passed over, and the next one goes on, also where that line can't be printed.
-pub(crate) fn report_unopened<V: Buffered>(err: &mut V, shown: &str) -> Done
-    ensures line { GrowsInto (V.contents err.old) (V.contents err.new) (unopened_line shown.now) }
-    ensures status { result.status ≡ 6 }
-    ensures goes_on { result.stops ≡ false }
+// Writes that end with a text.
+fn put_text<V: Buffered>(err: &mut V, name: &str, text: &str) -> bool
+    ensures { Writes result (V.contents err.old) (V.contents err.new) (line_end name.now text.now) }
 {
-    put_line(err, shown, "cannot open");
-    Done::with(SYSTEM_FAILURE)
-}
-
-/// Reports a fault at a file. After one of writing nothing further can be written.
-pub(crate) fn report_fault<V: Buffered>(err: &mut V, shown: &str, fault: Fault) -> Done
-    ensures line { GrowsInto (V.contents err.old) (V.contents err.new) (fault_line shown.now fault) }
-    ensures status { result.status ≡ 6 }
-    ensures stops { result.stops ≡ stops_after fault }
-{
-    put_fault(err, shown, fault);
-    Done {
-        status: SYSTEM_FAILURE,
-        stops: matches!(fault, Fault::WriteText | Fault::WriteNotes),
-    }
-}
-
-/// Reports a file for whose name there is no memory: that of one below `dir`, or `dir` itself.
-pub(crate) fn report_unnamed<V: Buffered>(err: &mut V, dir: &str, name: &str) -> Done
-    ensures line { GrowsInto (V.contents err.old) (V.contents err.new) (fault_line (shown dir.now ++ name.now) Memory) }
-    ensures status { result.status ≡ 6 }
-    ensures goes_on { result.stops ≡ false }
-{
-    put_unnamed(err, dir, name);
-    Done::with(SYSTEM_FAILURE)
-}
-
-// Writes the line about that file.
-fn put_unnamed<V: Buffered>(err: &mut V, dir: &str, name: &str) -> bool
-    ensures { Writes result (V.contents err.old) (V.contents err.new) (fault_line (shown dir.now ++ name.now) Memory) }
-{
-    if put_front(err, dir) {
-        return err.put_through(&[name.as_bytes(), b": out of memory\n"]);
-    }
-    false
-}
-
-// Writes that line up to the name.
-#[tactic(auto, using(crate::proofs::Waits::writes_on, crate::proofs::Waits::ended_before))]
-fn put_front<V: Buffered>(err: &mut V, name: &str) -> bool
-    ensures { Writes result (V.contents err.old) (V.contents err.new) (codes "mandoc: " ++ shown name.now) }
-{
-    if err.put_through(&[b"mandoc: "]) {
-        return put_name(err, name);
-    }
-    false
-}
-
-// Writes a line about a file; else a front of it was written.
-fn put_line<V: Buffered>(err: &mut V, shown: &str, text: &str) -> bool
-    ensures { GrowsInto (V.contents err.old) (V.contents err.new) (line_about shown.now text.now) }
-{
-    err.put_through(&[b"mandoc: ", shown.as_bytes(), b": ", text.as_bytes(), b"\n"])
+    err.put_through(&[name.as_bytes(), b": ", text.as_bytes(), b"\n"])
 }

@@ -1,11 +1,11 @@
 //! The pages of a command line, each from its bytes to its rows, its messages and its status (mandoc(1), DESCRIPTION).
 
-ghost use Rattle.std.specs.Prelude.{◌≡◌, List, [], IfOk};
+ghost use Rattle.std.specs.Prelude.{◌≡◌, [], IfOk};
 ghost use Rattle.std.specs.Io.KnownBytes.{Consumes};
 ghost use Rattle.page_core_streams.specs.Streams.{Grows};
-ghost use Rattle.mandoc_formats.specs.Formats.{Did, File, Page, IsPage, IsReported, page_out, page_err, Formatted, IsFile, IsFound, FormatsAll, Gave, IsPutOut, worst_of};
+ghost use Rattle.mandoc_formats.specs.Formats.{Did, File, Page, IsPage, IsReported, page_out, page_err, Formatted, IsFile, IsFound, FormatsAll, IsPutOut};
 
-use crate::faults::{Done, report_fault, report_unnamed, report_unopened};
+use crate::faults::{Done, report_fault, report_fault_at, report_unopened};
 use crate::finding::Finds;
 use crate::names::shown_name;
 use crate::waiting::Buffered;
@@ -31,9 +31,9 @@ pub fn format_all<R: Finds, I: Read, W: Buffered, V: Buffered>(
     out: &mut W,
     err: &mut V,
 ) -> u8
-    ensures { (files : List File) × FormatsAll (R.finds rt.now) format.now.settings format.now.files (I.remaining input.old) files
-        × Gave (W.contents out.old) (W.contents out.new) (V.contents err.old) (V.contents err.new) files
-        × (result ≡ worst_of files) × IsPutOut result (W.waits out.new) (V.waits err.new) }
+    ensures { (file : File) × FormatsAll (R.finds rt.now) format.now.settings format.now.files (I.remaining input.old) file
+        × Grows (W.contents out.old) (W.contents out.new) file.out × Grows (V.contents err.old) (V.contents err.new) file.err
+        × (result ≡ file.end.status) × IsPutOut result (W.waits out.new) (V.waits err.new) }
 {
     let settings = &format.settings;
     let names = format.files.as_slice();
@@ -65,7 +65,7 @@ fn format_file<R: Finds, W: Buffered, V: Buffered>(
 {
     match shown_name(alloc, name) {
         Ok(shown) => format_named(rt, alloc, out, err, name, shown.as_str(), settings),
-        Err(_) => report_unnamed(err, name, ""),
+        Err(_) => report_fault_at(err, name, "", Fault::Memory),
     }
 }
 

@@ -3,6 +3,7 @@
 ghost use Rattle.std.specs.Prelude.{◌≡◌, IfOk, string_bytes, encode_utf8, if◌then◌else◌};
 ghost use Rattle.page_core_streams.specs.laws.Views.{Writes};
 ghost use Rattle.mandoc_formats.specs.Formats.{shown};
+ghost use Rattle.mandoc_formats.specs.Indexes.{below};
 ghost use Rattle.mandoc_formats.specs.ShownNames.{is_hidden};
 
 use page_core_streams::Target;
@@ -20,6 +21,16 @@ pub(crate) fn shown_name(alloc: Global, name: &str) -> Result<String, AllocError
         text.push(shown_char(c))?;
     }
     Ok(text)
+}
+
+/// The name of what lies in a folder.
+pub(crate) fn below(alloc: Global, folder: &str, name: &str) -> Result<String, AllocError>
+    ensures { IfOk result (λ path. string_bytes path ≡ below folder.now name.now) }
+{
+    let mut path = String::from_str(alloc, folder)?;
+    path.push_str("/")?;
+    path.push_str(name)?;
+    Ok(path)
 }
 
 /// Writes that name with no memory of its own.

@@ -1,15 +1,15 @@
 //! Words looked for in the index of a directory (whatis(1)).
 
-ghost use Rattle.std.specs.Prelude.{◌≡◌, ◌==◌, ◌<◌, ℕ, List, [], ◌∷◌, map, option_map, IfOk, string_bytes, if◌then◌else◌};
+ghost use Rattle.std.specs.Prelude.{◌≡◌, ◌==◌, ◌<◌, ℕ, List, [], map, option_map, IfOk, string_bytes, if◌then◌else◌};
 ghost use Rattle.std.specs.Io.KnownBytes.{Consumes};
 ghost use Rattle.page_core_streams.specs.Streams.{Grows};
 ghost use Rattle.page_engine_index.specs.Searches.{Searches};
 ghost use Rattle.page_engine_index.specs.Whatis.{asked};
 ghost use Rattle.mandoc_command.specs.Line.{searches_of};
-ghost use Rattle.mandoc_formats.specs.Formats.{Did, File, Gave, IsFound, shown};
+ghost use Rattle.mandoc_formats.specs.Formats.{Did, File, IsFound, shown};
 ghost use Rattle.mandoc_formats.specs.Searches.{IsOf, IsSearch, IsAnswered, Search, Searched, SearchesFor, asked_by, index_in, prints};
 
-use crate::faults::{Done, report_fault, report_unnamed, report_unopened};
+use crate::faults::{Done, report_fault, report_fault_at, report_unopened};
 use crate::finding::Finds;
 use crate::names::shown_name;
 use crate::shown_rows::ShownRows;
@@ -22,7 +22,7 @@ use std::alloc::{AllocError, Global};
 use std::io::Read;
 
 /// The name of an index, below its directory.
-const INDEX: &str = "/whatis.idx";
+pub(crate) const INDEX: &str = "/whatis.idx";
 
 /// The status where a row was printed.
 const FOUND: u8 = 0;
@@ -42,8 +42,8 @@ pub fn search<R: Finds, W: Buffered, V: Buffered>(
     err: &mut V,
 ) -> u8
     ensures came { (file : File) × SearchesFor (R.finds rt.now) (searches_of asked.now) file
-        × Gave (W.contents out.old) (W.contents out.new) (V.contents err.old) (V.contents err.new) (file ∷ [])
-        × (result ≡ file.status) }
+        × Grows (W.contents out.old) (W.contents out.new) file.out × Grows (V.contents err.old) (V.contents err.new) file.err
+        × (result ≡ file.end.status) }
     ensures put_out { result < 6 → (W.waits out.new ≡ []) × (err.new ≡ err.old) }
 {
     match &asked.dir {
@@ -74,7 +74,7 @@ fn search_in<R: Finds, W: Buffered, V: Buffered>(
             out,
             err,
         ),
-        Err(_) => report_unnamed(err, dir, INDEX),
+        Err(_) => report_fault_at(err, dir, INDEX, Fault::Memory),
     }
 }
 

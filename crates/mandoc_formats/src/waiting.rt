@@ -66,6 +66,13 @@ impl<W: Write> Waiting<W> {
         }
     }
 
+    /// The writer, which does not get what still waits.
+    pub fn into_inner(self) -> W
+        ensures { result ≡ self.out }
+    {
+        self.out
+    }
+
     // Writes what waits, and says whether that succeeded; else a front of it was written, and the rest still waits.
     fn send(&mut self) -> bool
         ensures same { Grows (append_known (W.contents self.old.out) self.old.bytes.items) (append_known (W.contents self.new.out) self.new.bytes.items) [] }

@@ -1,3 +1,1 @@
-pub mod Bearings
-pub mod Compressed
 pub mod IndexModes

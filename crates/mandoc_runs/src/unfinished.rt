@@ -22,11 +22,23 @@ impl LockedFiles for HostRuntime {
     }
 }
 
-/// Makes a file that is not there yet, and locks it. What has its name, as the file of a run that was killed or a link, is removed, and never
-/// written to.
-///
-/// It fails at once where another run has locked what has the name, or takes the name meanwhile.
-pub fn create_locked<R: LockedFiles>(rt: &R, name: &str) -> io::Result<R::File> {
+/// Begins an index that is to take a name, in a file with the permissions of what has the name.
+pub fn begin_index<R: LockedFiles>(rt: &R, unfinished: &str, name: &str) -> io::Result<R::File> {
+    let file = create_locked(rt, unfinished)?;
+    match keep_mode(rt, &file, name) {
+        Ok(()) => Ok(file),
+        Err(error) => {
+            remove_own(rt, &file, unfinished);
+            Err(error)
+        }
+    }
+}
+
+// Makes a file that is not there yet, and locks it. What has its name, as the file of a run that was killed or a link, is removed, and never
+// written to.
+//
+// It fails at once where another run has locked what has the name, or takes the name meanwhile.
+fn create_locked<R: LockedFiles>(rt: &R, name: &str) -> io::Result<R::File> {
     remove_stale(rt, name)?;
     let file = File::create_new(rt, name)?;
     match lock(rt, &file, name) {
@@ -55,9 +67,9 @@ pub fn remove_own<R: Files>(rt: &R, file: &R::File, name: &str) {
     }
 }
 
-/// Gives an open file the permissions of the one whose place it is to take, where that one is a file of the same owner, who is the user that
-/// this run works for.
-pub fn keep_mode<R: Files>(rt: &R, file: &R::File, name: &str) -> io::Result<()> {
+// Gives an open file the permissions of the one whose place it is to take, where that one is a file of the same owner, who is the user that
+// this run works for.
+fn keep_mode<R: Files>(rt: &R, file: &R::File, name: &str) -> io::Result<()> {
     let (Ok(new), Ok(old)) = (file.metadata(), fs::symlink_metadata(rt, name)) else {
         return Ok(());
     };

@@ -1,6 +1,6 @@
 use Rattle.std.proofs.Common.{ℕ, List, sym, subst}
-use Rattle.page_core_streams.specs.Streams.{GrowsInto}
-use Rattle.mandoc_formats.proofs.Waits.{written_into, bad_line}
+use Rattle.page_core_streams.specs.laws.Views.{Writes}
+use Rattle.mandoc_formats.proofs.Waits.{bad_line}
 use Rattle.mandoc_formats.proofs.faults.put_bad_line.Goals as goal
 
 pub returns : goal.returns
@@ -8,4 +8,4 @@ returns g c =
     let a = g.V.Target.contents c.args.err.now in
     let b = g.V.Target.contents c.put_through.new.self in
     let came = rw (c.as_bytes.ensures.value, c.as_bytes-2.ensures.value, c.format.ensures.text) at c.put_through.ensures in
-    subst (λ (l : List ℕ). GrowsInto a b l) (sym (bad_line c.args.shown.now c.args.line)) (written_into c.put_through.result a b _ came)
+    subst (λ (l : List ℕ). Writes c.put_through.result a b l) (sym (bad_line c.args.name.now c.args.line)) came

@@ -20,8 +20,8 @@ returns-in-Ok g c =
 
 pub returns-in-Err : goal.returns-in-Err
 returns-in-Err g c =
-    let r = c.report_unnamed in
+    let r = c.report_fault_at in
     let err = g.V.Target.contents in
     let line = subst (λ (n : List ℕ). GrowsInto (err c.args.err.now) (err r.new.err) (fault_line n Memory)) (append-nil (shown c.args.name.now)) r.ensures.line in
     reported _ r.result _ _ _ _ _ line
-    (inl (record { out = refl; err = (line.rest, line.parts); status = r.ensures.status; goes_on = r.ensures.goes_on })) r.ensures.status
+    (inl (record { out = refl; err = (line.rest, line.parts); status = r.ensures.status; goes_on = r.ensures.stops })) r.ensures.status

@@ -1,18 +1,17 @@
-use Rattle.std.proofs.Common.{◌++◌, Result, Ok, Err, false, refl, subst}
+use Rattle.std.proofs.Common.{◌++◌, Result, Ok, Err, refl, ◌∙◌, subst}
 use Rattle.page_core_base.specs.declared.faults.Fault.{Fault}
 use Rattle.page_core_streams.specs.laws.Views.{Grows-append}
 use Rattle.page_engine.specs.declared.runs.Outcome.{Outcome}
-use Rattle.mandoc_formats.specs.Formats.{File, IsReported, page_out, page_err}
-use Rattle.mandoc_formats.proofs.Lists.{gave_one, none_below}
+use Rattle.mandoc_formats.specs.Formats.{IsReported, page_out, page_err}
+use Rattle.mandoc_formats.proofs.Lists.{none_below}
 use Rattle.mandoc_formats.proofs.formatting.format_page.Goals as goal
 
 pub returns-in-Ok : goal.returns-in-Ok
 returns-in-Ok g c =
     let r = c.run_waiting.ensures.ran in
     let kind = c.args.settings.now.output in
-    let file : File = record { out = page_out kind r.0; err = page_err kind r.0; status = c.status_of.result; stops = false } in
     let empty = rw c.in-Ok.is at c.run_waiting.ensures.empty in (
-      file,
+      record { out = page_out kind r.0; err = page_err kind r.0; end = c.with.result },
       record {
         page = r.0;
         is = r.1;
@@ -20,11 +19,11 @@ returns-in-Ok g c =
         result = Ok c.in-Ok.outcome;
         ended = subst (λ (x : Result Outcome Fault). IsReported r.0.end x) c.in-Ok.is r.3;
         out = refl;
-        told = (refl, c.status_of.ensures, refl);
+        told = (refl, c.with.ensures.status ∙ c.status_of.ensures, c.with.ensures.goes_on);
       },
-      gave_one _ _ _ _ file r.4 r.5,
-      c.with.ensures.status,
-      c.with.ensures.goes_on,
+      r.4,
+      r.5,
+      refl,
       λ p. empty,
     )
 
@@ -33,9 +32,8 @@ returns-in-Err g c =
     let r = c.run_waiting.ensures.ran in
     let kind = c.args.settings.now.output in
     let f = c.report_fault in
-    let line = f.ensures.line in
-    let file : File = record { out = page_out kind r.0; err = page_err kind r.0 ++ line.done; status = f.result.status; stops = f.result.stops } in (
-      file,
+    let line = f.ensures.line in (
+      record { out = page_out kind r.0; err = page_err kind r.0 ++ line.done; end = f.result },
       record {
         page = r.0;
         is = r.1;
@@ -45,8 +43,8 @@ returns-in-Err g c =
         out = refl;
         told = ((line.done, refl, (line.rest, line.parts)), f.ensures.status, f.ensures.stops);
       },
-      gave_one _ _ _ _ file r.4 (Grows-append _ _ _ _ line.done r.5 line.grows),
-      refl,
+      r.4,
+      Grows-append _ _ _ _ line.done r.5 line.grows,
       refl,
       none_below _ _ f.ensures.status,
     )
