@@ -1,14 +1,12 @@
 -- Bytes that wait for a writer.
-use Rattle.std.proofs.Common.{◌≡◌, ℕ, Bool, true, false, List, [], ◌∷◌, ◌++◌, Option, Some, None, sym, ap, ◌∙◌, take, drop, length, ◌≤◌, ◌+◌, take-append-drop, append_assoc, append-nil, arith, refl}
-use Rattle.std.proofs.lemmas.Bool.Decides.{nat_tests}
+use Rattle.std.proofs.Common.{◌≡◌, ℕ, Bool, true, false, List, [], ◌∷◌, ◌++◌, Option, Some, None, sym, ap, ◌∙◌, take, drop, length, ◌≤◌, ◌+◌, take-append-drop, append_assoc, append-nil, arith}
 use Rattle.std.proofs.lemmas.List.{take-take, drop-take}
 use Rattle.std.specs.Io.KnownBytes.{Keeps}
-use Rattle.std.specs.Prelude.{codes, decimal, ◌==◌}
+use Rattle.std.specs.Prelude.{codes, decimal}
 use Rattle.page_core_base.specs.declared.faults.Fault.TheVariants as fault
 use Rattle.page_core_streams.specs.Streams.{Grows, GrowsInto}
 use Rattle.page_core_streams.specs.laws.Views.{Writes, Grows-append}
 use Rattle.mandoc_formats.specs.Formats.{fault_text, line_about, line_end}
-use Rattle.mandoc_formats.specs.Indexes.{compressed_line, compressed_text}
 
 pub take_plus : (n m : ℕ) (xs : List ℕ) → n + m ≤ length xs → take n xs ++ take m (drop n xs) ≡ take (n + m) xs
 take_plus n m xs h =
@@ -48,12 +46,3 @@ line_parts dir name text = ap (λ l. codes "mandoc: " ++ l) (append_assoc dir na
 -- of a line of an index
 pub bad_line : (name : List ℕ) (line : ℕ) → line_end name (fault_text (fault.BadIndex line)) ≡ name ++ (codes ": line " ++ (decimal line ++ codes ": bad index\n"))
 bad_line name line = ap (λ l. name ++ (codes ": line " ++ l)) (append_assoc (decimal line) (codes ": bad index") (10 ∷ []))
-
--- of pages that are compressed
-pub count_line : (count : ℕ) → (count ≡ 1 → ⊥) → line_end [] (compressed_text count) ≡ codes ": " ++ (decimal count ++ codes " compressed pages passed over\n")
-count_line count n =
-    let e : (count == 1) ≡ false = grind (arith, nat_tests) in
-    rw e (ap (λ l. codes ": " ++ l) (append_assoc (decimal count) (codes " compressed pages passed over") (10 ∷ [])))
-
-pub some_compressed : (name : List ℕ) (count : ℕ) → (count ≡ 0 → ⊥) → compressed_line name count ≡ line_about name (compressed_text count)
-some_compressed name count n = let e : (count == 0) ≡ false = grind (arith, nat_tests) in rw e refl

@@ -1,9 +1,3 @@
-pub mod Bearings
-pub mod Commands
-pub mod Compressed
 pub mod Formats
-pub mod Indexes
-pub mod Searches
 pub mod ShownNames
-pub mod Sights
 pub mod Turns

@@ -4,10 +4,8 @@ ghost use Rattle.std.specs.Prelude.{◌≡◌, ◌++◌, [], false, codes};
 ghost use Rattle.page_core_streams.specs.Streams.{GrowsInto};
 ghost use Rattle.page_core_streams.specs.laws.Views.{Writes};
 ghost use Rattle.mandoc_formats.specs.Formats.{fault_text, stops_after, fault_line, unopened_line, line_about, line_end, shown};
-ghost use Rattle.mandoc_formats.specs.Indexes.{compressed_in, compressed_line, compressed_text};
 
 use crate::names::put_name;
-use crate::pages::Tally;
 use crate::waiting::Buffered;
 use itoa::Buffer;
 use page_core_base::{Fault, SettingFault};
@@ -48,7 +46,7 @@ pub fn report_unopened<V: Buffered>(err: &mut V, shown: &str) -> Done
 }
 
 /// Reports a fault at a file that messages have by another name. After one of writing nothing further can be written.
-pub(crate) fn report_fault<V: Buffered>(err: &mut V, shown: &str, fault: Fault) -> Done
+pub fn report_fault<V: Buffered>(err: &mut V, shown: &str, fault: Fault) -> Done
     ensures line { GrowsInto (V.contents err.old) (V.contents err.new) (fault_line shown.now fault) }
     ensures status { result.status ≡ 6 }
     ensures stops { result.stops ≡ stops_after fault }
@@ -58,22 +56,13 @@ pub(crate) fn report_fault<V: Buffered>(err: &mut V, shown: &str, fault: Fault) 
 }
 
 /// Reports a fault at what has a name below `dir`, or at `dir` itself, with no memory of its own.
-pub(crate) fn report_fault_at<V: Buffered>(err: &mut V, dir: &str, name: &str, fault: Fault) -> Done
+pub fn report_fault_at<V: Buffered>(err: &mut V, dir: &str, name: &str, fault: Fault) -> Done
     ensures line { GrowsInto (V.contents err.old) (V.contents err.new) (fault_line (shown dir.now ++ name.now) fault) }
     ensures status { result.status ≡ 6 }
     ensures stops { result.stops ≡ stops_after fault }
 {
     put_fault_at(err, dir, name, fault);
     failed_by(fault)
-}
-
-/// Says how many pages of a directory are compressed, if some are.
-pub(crate) fn report_compressed<V: Buffered>(err: &mut V, dir: &str, given: Result<Tally, Fault>)
-    ensures { GrowsInto (V.contents err.old) (V.contents err.new) (compressed_in (shown dir.now) given) }
-{
-    if let Ok(tally) = given {
-        put_compressed(err, dir, tally.compressed);
-    }
 }
 
 // What a fault leaves.
@@ -110,7 +99,7 @@ fn put_fault_at<V: Buffered>(err: &mut V, dir: &str, name: &str, fault: Fault) -
 
 /// Writes a line about what has a name; else a front of it was written.
 #[tactic(auto, using(crate::proofs::Waits::writes_on, crate::proofs::Waits::ended_before))]
-pub(crate) fn put_line_at<V: Buffered>(err: &mut V, name: &str, text: &str) -> bool
+pub fn put_line_at<V: Buffered>(err: &mut V, name: &str, text: &str) -> bool
     ensures { Writes result (V.contents err.old) (V.contents err.new) (line_about (shown name.now) text.now) }
 {
     if put_front(err, name) {
@@ -119,35 +108,9 @@ pub(crate) fn put_line_at<V: Buffered>(err: &mut V, name: &str, text: &str) -> b
     false
 }
 
-// Writes the line about pages that are compressed.
+/// Writes the front of a line about what has a name, up to that name; else a front of it was written.
 #[tactic(auto, using(crate::proofs::Waits::writes_on, crate::proofs::Waits::ended_before))]
-fn put_compressed<V: Buffered>(err: &mut V, dir: &str, count: u64) -> bool
-    ensures { Writes result (V.contents err.old) (V.contents err.new) (compressed_line (shown dir.now) count) }
-{
-    if count == 0 {
-        return true;
-    }
-    if put_front(err, dir) {
-        return put_count(err, count);
-    }
-    false
-}
-
-// Writes the end of that line.
-fn put_count<V: Buffered>(err: &mut V, count: u64) -> bool
-    ensures { Writes result (V.contents err.old) (V.contents err.new) (line_end [] (compressed_text count)) }
-{
-    if count == 1 {
-        return err.put_through(&[b": 1 compressed page passed over\n"]);
-    }
-    let mut digits = Buffer::new();
-    let digits = digits.format(count);
-    err.put_through(&[b": ", digits.as_bytes(), b" compressed pages passed over\n"])
-}
-
-// Writes the front of a line, up to a name.
-#[tactic(auto, using(crate::proofs::Waits::writes_on, crate::proofs::Waits::ended_before))]
-fn put_front<V: Buffered>(err: &mut V, name: &str) -> bool
+pub fn put_front<V: Buffered>(err: &mut V, name: &str) -> bool
     ensures { Writes result (V.contents err.old) (V.contents err.new) (codes "mandoc: " ++ shown name.now) }
 {
     if err.put_through(&[b"mandoc: "]) {

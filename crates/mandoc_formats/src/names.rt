@@ -3,7 +3,6 @@
 ghost use Rattle.std.specs.Prelude.{◌≡◌, IfOk, string_bytes, encode_utf8, if◌then◌else◌};
 ghost use Rattle.page_core_streams.specs.laws.Views.{Writes};
 ghost use Rattle.mandoc_formats.specs.Formats.{shown};
-ghost use Rattle.mandoc_formats.specs.Indexes.{below};
 ghost use Rattle.mandoc_formats.specs.ShownNames.{is_hidden};
 
 use page_core_streams::Target;
@@ -13,7 +12,7 @@ use std::alloc::{AllocError, Global};
 const HIDDEN: char = '?';
 
 /// The name of a file as messages have it: each hidden character is a `?`, so that no name forges a line, turns text or changes a terminal.
-pub(crate) fn shown_name(alloc: Global, name: &str) -> Result<String, AllocError>
+pub fn shown_name(alloc: Global, name: &str) -> Result<String, AllocError>
     ensures { IfOk result (λ text. string_bytes text ≡ shown name.now) }
 {
     let mut text = String::new(alloc);
@@ -23,18 +22,8 @@ pub(crate) fn shown_name(alloc: Global, name: &str) -> Result<String, AllocError
     Ok(text)
 }
 
-/// The name of what lies in a folder.
-pub(crate) fn below(alloc: Global, folder: &str, name: &str) -> Result<String, AllocError>
-    ensures { IfOk result (λ path. string_bytes path ≡ below folder.now name.now) }
-{
-    let mut path = String::from_str(alloc, folder)?;
-    path.push_str("/")?;
-    path.push_str(name)?;
-    Ok(path)
-}
-
 /// Writes that name with no memory of its own.
-pub(crate) fn put_name<V: Target>(err: &mut V, name: &str) -> bool
+pub fn put_name<V: Target>(err: &mut V, name: &str) -> bool
     ensures { Writes result (V.contents err.old) (V.contents err.new) (shown name.now) }
 {
     let mut is_written = true;

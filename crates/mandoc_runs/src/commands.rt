@@ -16,7 +16,7 @@ pub fn run_command<R: LockedFiles, I: Read, W: Write, V: Write>(
     out: &mut W,
     err: &mut V,
 ) -> u8 {
-    mandoc_formats::run_command(
+    mandoc_programs::run_command(
         rt,
         &RegularFiles { files: rt },
         &mut IndexFiles {

@@ -1,7 +1,8 @@
 //! The files of pages and indexes, as the system has them (stat(2), open(2)).
 
 use crate::unfinished::{LockedFiles, begin_index, is_name_of, remove_own};
-use mandoc_formats::{Finds, Folders, IndexPlaces};
+use mandoc_formats::Finds;
+use mandoc_programs::{Folders, IndexPlaces};
 use std::alloc::{AllocError, Global};
 use std::fs::{self, Files, Metadata, OpenFile};
 use std::io::{self, ErrorKind};

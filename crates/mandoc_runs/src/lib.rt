@@ -1,4 +1,4 @@
-//! What is trusted of the program: the system's files, as `mandoc_formats` takes them.
+//! What is trusted of the program: the system's files, as `mandoc_programs` takes them.
 //!
 //! What a command does with files and streams is proved there (`run_command`). Nothing is proved of what the system does: which files a name opens
 //! and a folder lists (`RegularFiles`), how an index takes its name, its lock and its mode (`IndexFiles`, `unfinished.rt`), and the numbers of the

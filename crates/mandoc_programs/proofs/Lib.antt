@@ -1,0 +1,3 @@
+pub mod AsRows
+pub mod Parts
+pub mod ShownLemmas

@@ -1,0 +1,27 @@
+-- What a command comes to. Source: mandoc(1), makewhatis(8), whatis(1), EXIT STATUS.
+use Rattle.std.specs.Prelude.{◌≡◌, ℕ, List, [], Option}
+use Rattle.mandoc_command.specs.Line.{indexes_of, searches_of}
+use Rattle.mandoc_command.specs.declared.commands.Command.{Command}
+use Rattle.mandoc_command.specs.declared.commands.Command.TheVariants.{Format, Makewhatis, Whatis}
+use Rattle.mandoc_formats.specs.Formats.{File, FormatsAll}
+use Rattle.mandoc_programs.specs.Indexes.{Index, Makes, MakesAll}
+use Rattle.mandoc_programs.specs.Searches.{SearchesFor}
+use Rattle.mandoc_programs.specs.Sights.{Sight}
+use Rattle.mandoc_formats.specs.Turns.{Came}
+
+-- what came to the output and beside it, the indexes that took their names, and the status
+pub record Run : Type 0 where
+  pub out : List ℕ
+  pub err : List ℕ
+  pub put : List Index
+  pub status : ℕ
+
+abbrev pub run_of : File → Run
+run_of file = record { out = file.out; err = file.err; put = []; status = file.end.status }
+
+-- pages to format are found among all files, and an index that is searched among those that are no device and no pipe
+abbrev pub IsRun : (finds finds_regular : List ℕ → Option (Option (List ℕ)) → Type 0) → (sees : List ℕ → Sight → Type 0) → Command → (input : Option (List ℕ)) → Run → Type 0
+IsRun finds finds_regular sees (Format format) input run = (file : File) × FormatsAll finds format.settings format.files input file × (run ≡ run_of file)
+IsRun finds finds_regular sees (Makewhatis asked) input run = (all : Came Makes) × MakesAll sees (indexes_of asked) all
+    × (run ≡ record { out = all.out; err = all.err; put = all.end.put; status = all.end.done.status })
+IsRun finds finds_regular sees (Whatis asked) input run = (file : File) × SearchesFor finds_regular (searches_of asked) file × (run ≡ run_of file)
