@@ -18,16 +18,13 @@ fails : (b : Bool) → ¬ (b ≡ true) → b ≡ false
 fails true h = absurd (h refl)
 fails false h = refl
 
--- no byte before a place passes a test; or is this one
-pub front_fails : (test : ℕ → Bool) (text : List ℕ) (n : ℕ) → n ≤ length text → Nowhere (Passes test text) 0 n → All (λ x. test x ≡ false) (take n text)
-front_fails test text n w h = λ k d l.
-    let m : k < n = grind (arith, common_steps) in
-    let e : get_or (take n text) k d ≡ get_or text k 0 = grind (arith, common_steps) in
-    rw e (fails (test (get_or text k 0)) (h k (omega arith) m))
-
+-- no byte before a place is this one
 pub front_none : (byte : ℕ) (text : List ℕ) (n : ℕ) → n ≤ length text → Nowhere (Passes (is_byte byte) text) 0 n
     → All (λ x. (x == byte) ≡ false) (take n text)
-front_none byte text n w h = front_fails (is_byte byte) text n w h
+front_none byte text n w h = λ k d l.
+    let m : k < n = grind (arith, common_steps) in
+    let e : get_or (take n text) k d ≡ get_or text k 0 = grind (arith, common_steps) in
+    rw e (fails (get_or text k 0 == byte) (h k (omega arith) m))
 
 pub split_none : (byte : ℕ) (text : List ℕ) → IsFirstByte (is_byte byte) text None → slice_split (is_byte byte) text ≡ text ∷ []
 split_none byte text h = slice_split_none (is_byte byte) text (rw (take_all (length text) text (omega arith)) at (front_none byte text (length text) (omega arith) h))

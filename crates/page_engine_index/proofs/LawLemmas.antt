@@ -109,10 +109,10 @@ match_complete word name m = ap (matches_in word false) m.parts ∙ in_complete 
 -- ---- an index that was written
 
 -- the line of an entry without its line feed
-unfoldable pub text_of : Entry → List ℕ
+text_of : Entry → List ℕ
 text_of e = e.names ++ (9 ∷ (e.section ++ (9 ∷ (e.description ++ (9 ∷ e.file)))))
 
-pub line_text : (e : Entry) (rest : List ℕ) → entry_line e ++ rest ≡ text_of e ++ 10 ∷ rest
+line_text : (e : Entry) (rest : List ℕ) → entry_line e ++ rest ≡ text_of e ++ 10 ∷ rest
 unfolding text_of
 line_text e rest = simp append_assoc
 
@@ -148,7 +148,7 @@ text_fields e k =
     split_field e.names _ k.names ∙ ap (λ l. e.names ∷ l) (split_field e.section _ k.section
     ∙ ap (λ l. e.section ∷ l) (split_field e.description _ k.description ∙ ap (λ l. e.description ∷ l) (no_tab_of_end e.file k.file)))
 
-pub text_flat : (e : Entry) → IsKept e → HasNoFeed (text_of e)
+text_flat : (e : Entry) → IsKept e → HasNoFeed (text_of e)
 unfolding text_of
 text_flat e k =
     let file = no_feed_of_end e.file k.file in
@@ -156,7 +156,7 @@ text_flat e k =
     let section = no_feed-append e.section (9 ∷ (e.description ++ (9 ∷ e.file))) (no_feed_of_end e.section k.section) description in
     no_feed-append e.names (9 ∷ (e.section ++ (9 ∷ (e.description ++ (9 ∷ e.file))))) (no_feed_of_end e.names k.names) section
 
-pub text_entry : (e : Entry) → IsKept e → entry_of Two (text_of e) ≡ Some e
+text_entry : (e : Entry) → IsKept e → entry_of Two (text_of e) ≡ Some e
 unfolding entry_of
 text_entry e k =
     let short : nat_le (length (text_of e)) LINE ≡ true = le-leb (length (text_of e)) LINE (omega (arith, k.short, line_length e)) in

@@ -5,6 +5,3 @@ pub mod LineLemmas
 pub mod SearchLemmas
 pub mod LawLemmas
 pub mod CauseLemmas
-pub mod ScanLemmas
-pub mod WordLemmas
-pub mod PassLemmas

@@ -1,7 +1,7 @@
 -- The names of an entry one after another, and the places of a name at which a word may be.
-use Rattle.std.proofs.Common.{◌≡◌, ℕ, suc, ◌+◌, ◌-◌, ◌<◌, ◌≤◌, ◌==◌, ◌&&◌, ◌||◌, Bool, true, false, List, [], ◌∷◌, ◌++◌, length, take, drop, refl, sym, ap, subst, ◌∙◌, arith, inl, inr}
+use Rattle.std.proofs.Common.{◌≡◌, ℕ, suc, ◌+◌, ◌-◌, ◌<◌, ◌≤◌, ◌==◌, ◌&&◌, ◌||◌, Bool, true, false, List, [], ◌∷◌, length, take, drop, refl, sym, ap, ◌∙◌, arith, inl, inr}
 use Rattle.std.specs.Prelude.{if◌then◌else◌}
-use Rattle.std.proofs.lemmas.Bool.{cases_Bool, cases_eq, and_parts, false≢true, eqb-true}
+use Rattle.std.proofs.lemmas.Bool.{cases_Bool, cases_eq, false≢true, eqb-true}
 use Rattle.std.proofs.lemmas.List.{take_all, take_rest, drop-drop}
 use Rattle.std.specs.List.{onto_first, list_any}
 use Rattle.page_engine_index.specs.Matches.{names_of, without_blank, begins_blank, ends_name, has_match, is_match, matches_in, matches_here, is_word_byte}
@@ -101,27 +101,6 @@ names_room (byte ∷ bytes) h =
           let e = len_at byte bytes false f in
           let l : name_len bytes < length bytes = omega (arith, e, h) in
           omega (arith, e, names_room bytes l)
-    ]
-
--- what is between a name and the next
-sep_here : (byte : ℕ) (bytes : List ℕ) → ends_name byte bytes ≡ true → byte ∷ bytes ≡ 44 ∷ 32 ∷ drop 2 (byte ∷ bytes)
-sep_here byte [] t = absurd (false≢true (blank_after byte [] t))
-sep_here byte (next ∷ bytes) t =
-    let comma : byte ≡ 44 = eqb-true byte 44 (and_parts (byte == 44) _ t).0 in
-    let blank : next ≡ 32 = eqb-true next 32 (and_parts (byte == 44) _ t).1 in
-    rw (comma, blank) refl
-
-pub names_sep : (text : List ℕ) → ¬ (name_len text ≡ length text) → text ≡ take (name_len text) text ++ (44 ∷ 32 ∷ drop (name_len text + 2) text)
-names_sep [] h = absurd (h len_none)
-names_sep (byte ∷ bytes) h =
-    elim (cases_Bool (ends_name byte bytes)) [
-      | inl t ↦ subst (λ n. byte ∷ bytes ≡ take n (byte ∷ bytes) ++ (44 ∷ 32 ∷ drop (n + 2) (byte ∷ bytes))) (sym (len_at byte bytes true t)) (sep_here byte bytes t)
-      | inr f ↦
-          let e = len_at byte bytes false f in
-          let k : ¬ (name_len bytes ≡ length bytes) = λ same. h (e ∙ omega (arith, same)) in
-          let n : name_len (byte ∷ bytes) ≡ suc (name_len bytes) = e ∙ omega arith in
-          subst (λ m. byte ∷ bytes ≡ take m (byte ∷ bytes) ++ (44 ∷ 32 ∷ drop (m + 2) (byte ∷ bytes))) (sym n)
-          (ap (λ l. byte ∷ l) (names_sep bytes k) ∙ ap (λ m. byte ∷ (take (name_len bytes) bytes ++ (44 ∷ 32 ∷ drop m (byte ∷ bytes)))) (more_of (name_len bytes)))
     ]
 
 -- ---- a loop over the names

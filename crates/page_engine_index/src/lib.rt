@@ -14,10 +14,8 @@ mod fields;
 mod laws;
 mod line_sinks;
 mod matches;
-mod passing;
 mod queries;
 mod records;
-mod scans;
 mod searches;
 
 pub use fields::is_field;

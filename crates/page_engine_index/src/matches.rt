@@ -1,10 +1,8 @@
 //! When a word matches a name of an entry (whatis(1)).
 
-ghost use Rattle.std.specs.Prelude.{◌≡◌, ◌+◌, ◌<◌, ◌≤◌, false, length, take, drop};
-ghost use Rattle.page_engine_index.specs.Matches.{begins_blank, begins_word, ends_name, ends_word, has_match, is_match, is_word_byte, matches_here, matches_in};
+ghost use Rattle.std.specs.Prelude.{◌≡◌, ◌+◌, ◌<◌, ◌≤◌, length};
+ghost use Rattle.page_engine_index.specs.Matches.{begins_blank, begins_word, ends_name, has_match, is_match, is_word_byte, matches_here};
 ghost use Rattle.page_engine_index.specs.machine.Steps.{name_len};
-
-use crate::scans::{len_without, len_without_pair};
 
 /// Whether a word matches one of the names, which are separated by `, ` (whatis(1)).
 pub(crate) fn has_match(word: &[u8], names: &[u8]) -> bool
@@ -60,64 +58,19 @@ fn begins_blank(text: &[u8]) -> bool
 fn is_match(word: &[u8], name: &[u8]) -> bool
     ensures { result ≡ is_match word.now name.now }
 {
-    is_match_within(word, name, name.len())
-}
-
-/// Whether a word occurs so in a name of this many bytes at the front of a text. The whole text is searched, a vector at a time where it is
-/// long.
-pub(crate) fn is_match_within(word: &[u8], text: &[u8], len: usize) -> bool
-    requires { len ≤ length text.now }
-    ensures { result ≡ is_match word.now (take len text.now) }
-{
-    let name = &text[..len];
-    let mut at = next_place(word, text, len, 0);
-    while at < len {
-        if matches_at(word, name, at) {
+    let mut before = false;
+    let mut rest = name;
+    while let Some((byte, after)) = rest.split_first() {
+        if matches_here(word, before, rest) {
             return true;
         }
-        at = next_place(word, text, len, at + 1);
+        before = is_word_byte(*byte);
+        rest = after;
     }
-    word.is_empty() && matches_at(word, name, at)
+    matches_here(word, before, rest)
 }
 
-// A place, from one on, before which there is none where a word may be: the next one with its first two bytes in either case, or the end of
-// the name, or one where the bytes that were read are at their end.
-fn next_place(word: &[u8], text: &[u8], len: usize, at: usize) -> usize
-    requires at { at ≤ len }
-    requires len { len ≤ length text.now }
-    ensures low { at ≤ result }
-    ensures high { result ≤ len }
-    ensures passed { matches_in word.now (ends_word false (take at (take len text.now))) (drop at (take len text.now))
-        ≡ matches_in word.now (ends_word false (take result (take len text.now))) (drop result (take len text.now)) }
-{
-    let left = len - at;
-    let Some((first, rest)) = word.split_first() else {
-        return at;
-    };
-    let Some((second, _)) = rest.split_first() else {
-        let (small, large) = (first.to_ascii_lowercase(), first.to_ascii_uppercase());
-        return at + len_without(small, large, &text[at..], left).min(left);
-    };
-    at + len_without_pair(*first, *second, &text[at..], left).min(left)
-}
-
-// Whether a word is at a place of a name.
-fn matches_at(word: &[u8], name: &[u8], at: usize) -> bool
-    requires { at ≤ length name.now }
-    ensures { result ≡ matches_here word.now (ends_word false (take at name.now)) (drop at name.now) }
-{
-    matches_here(word, is_after_word(name, at), &name[at..])
-}
-
-// Whether a letter, a digit or an underscore is before a place of a text.
-fn is_after_word(text: &[u8], at: usize) -> bool
-    requires { at ≤ length text.now }
-    ensures { result ≡ ends_word false (take at text.now) }
-{
-    at > 0 && is_word_byte(text[at - 1])
-}
-
-// Whether a word is at the front of a text, after a byte that is one of a word or not.
+// The same at the front of a text, after a byte that is one of a word or not.
 fn matches_here(word: &[u8], before: bool, text: &[u8]) -> bool
     ensures { result ≡ matches_here word.now before text.now }
 {

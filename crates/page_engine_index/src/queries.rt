@@ -1,6 +1,6 @@
 //! What is looked for in an index, and what is shown of an entry (whatis(1)).
 
-ghost use Rattle.std.specs.Prelude.{◌≡◌, ◌≤◌, [], ◌∷◌, false, length, take};
+ghost use Rattle.std.specs.Prelude.{◌≡◌, [], ◌∷◌};
 ghost use Rattle.std.specs.List.{flat_map, list_any};
 ghost use Rattle.page_engine_index.specs.Matches.{has_match};
 ghost use Rattle.page_engine_index.specs.machine.Steps.{GivesRow, entries_by, entry_by};
@@ -9,7 +9,7 @@ ghost use Rattle.page_engine_index.specs.Whatis.{asked_of, described, file_row, 
 
 use crate::entries::Fields;
 use crate::line_sinks::LineSink;
-use crate::matches::{has_match, is_match_within};
+use crate::matches::has_match;
 use page_core_base::Fault;
 
 /// What is shown of an entry.
@@ -85,20 +85,6 @@ impl<'a> Query<'a> {
     {
         for word in self.words {
             if has_match(word.as_bytes(), names) {
-                return true;
-            }
-        }
-        false
-    }
-
-    // Whether one of the words is in names, of this many bytes at the front of a text, as if these were one name. Where none is, none of them
-    // matches, and the names need not be parted.
-    pub(crate) fn may_match(&self, text: &[u8], len: usize) -> bool
-        requires { len ≤ length text.now }
-        ensures { result ≡ false → list_any (λ word. has_match word (take len text.now)) (asked_of self.now).words ≡ false }
-    {
-        for word in self.words {
-            if is_match_within(word.as_bytes(), text, len) {
                 return true;
             }
         }

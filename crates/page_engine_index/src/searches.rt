@@ -1,17 +1,14 @@
 //! A search of an index: its lines are read one after another, in the memory of one line (whatis(1)).
 
-ghost use Rattle.std.specs.Prelude.{◌≡◌, ◌+◌, ◌<◌, ◌≤◌, ◌^◌, ℕ, List, [], ◌++◌, Some, length, IfSome, IfOk, IfErr, true, false};
+ghost use Rattle.std.specs.Prelude.{◌≡◌, ◌+◌, ◌<◌, ◌≤◌, ◌^◌, ℕ, List, [], length, IfOk, IfErr, true};
 ghost use Rattle.std.specs.Io.KnownBytes.{Consumes};
-ghost use Rattle.page_engine_index.specs.Entries.{Entry};
-ghost use Rattle.page_engine_index.specs.Records.{IsKept, entry_line};
 ghost use Rattle.page_engine_index.specs.Searches.{Searches, SearchesOver, counting, rows_to};
 ghost use Rattle.page_engine_index.specs.machine.Steps.{IsFresh, TakesLine, TakesOpen, TakesPart, TakesChunk, Finishes};
-ghost use Rattle.page_engine_index.specs.Whatis.{asked, asked_of, is_shown};
+ghost use Rattle.page_engine_index.specs.Whatis.{asked, asked_of};
 ghost use Rattle.page_engine_index.specs.Written.{written};
 
-use crate::entries::{Place, Version};
+use crate::entries::Place;
 use crate::line_sinks::{LineSink, TextLines};
-use crate::passing::passed_len;
 use crate::queries::{Query, Show};
 use memchr::memchr;
 use page_core_base::{BoundedText, Fault, LINE};
@@ -64,39 +61,6 @@ impl Search {
 
     // Takes bytes up to the end of a line, or all of a chunk, and gives the row of a line that is whole. It answers how many bytes it took.
     fn take_part<L: LineSink>(
-        &mut self,
-        chunk: &[u8],
-        query: &Query,
-        out: &mut L,
-    ) -> Result<usize, Fault>
-        requires some { 0 < length chunk.now }
-        requires count { self.old.place.lines < 2 ^ 31 }
-        requires few { self.old.rows ≤ self.old.place.lines }
-        ensures takes { TakesPart result (rows_to L.gave L.within L.failed) (asked_of query.now)
-            self.old self.new out.old out.new chunk.now }
-        ensures same { L.loans out.new ≡ L.loans out.old }
-    {
-        if let Some(count) = self.passed_len(chunk, query) {
-            self.place.lines += 1;
-            return Ok(count);
-        }
-        self.read_part(chunk, query, out)
-    }
-
-    // How many bytes of a chunk may be passed over: those of a record that no word matches, where no line is open.
-    fn passed_len(&self, chunk: &[u8], query: &Query) -> Option<usize>
-        ensures { IfSome result (λ count. (entry : Entry) × (rest : List ℕ) × (chunk.now ≡ entry_line entry ++ rest) × IsKept entry
-            × (is_shown (asked_of query.now) entry ≡ false) × (count ≡ length (entry_line entry))
-            × (self.now.held ≡ []) × (self.now.place.version ≡ Some Version.Two)) }
-    {
-        match self.place.version {
-            Some(Version::Two) if self.held.bytes().is_empty() => passed_len(query, chunk),
-            _ => None,
-        }
-    }
-
-    // Takes a part of a chunk as `take_part` does, whatever its line is.
-    fn read_part<L: LineSink>(
         &mut self,
         chunk: &[u8],
         query: &Query,
