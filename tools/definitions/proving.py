@@ -41,12 +41,7 @@ def settings_term(worked, settings):
 
 
 def clause(worked, settings, page, shown):
-    lists = [
-        worked.list_of([worked.literal(line) for line in lines_of(page)]),
-        worked.list_of([worked.row_term(row) for row in lines_of(shown.rows)]),
-        worked.list_of([worked.literal(line) for line in lines_of(shown.messages)]),
-    ]
-    terms = "\n        ".join(f"({term})" for term in lists).replace("([])", "[]")
+    terms = "\n        ".join(worked.wrapped("", lines_of(text)) for text in (page, shown.rows, shown.messages))
     return f"    ensures shows {{ Shows {settings_term(worked, settings)}\n        {terms} }}"
 
 
@@ -64,7 +59,7 @@ def fill_crate(room, worked, text):
         "src/asked.rt": f"//! The page.\n\n{uses}\n\n/// A page, and what the definitions give for it.\npub fn page_asked()\n{text}\n{{}}\n",
         "proofs/Lib.antt": "pub mod Unfolded\n",
         "proofs/Unfolded.antt": unfolded,
-        "proofs/asked/page_asked/Answers.antt": worked.answers(CRATE, "asked", "page_asked", ["shows"], count),
+        "proofs/asked/page_asked/Answers.antt": worked.answers("asked", "page_asked", count),
     }
     for path, content in files.items():
         with open(f"{folder}/{path}", "w", encoding="utf-8") as file:

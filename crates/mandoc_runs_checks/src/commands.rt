@@ -106,68 +106,51 @@ fn refuses(rt: &impl Abort, alloc: Global, words: &[&str]) {
     assert!(rt; refused, "at {words:?}");
 }
 
-static TAKEN: [(&str, &str); 72] = [
-    ("-T ascii", ""),
-    ("-Tascii", ""),
-    ("-T=ascii", ""),
-    ("-T utf8", "Utf8 "),
-    ("-Tutf8", "Utf8 "),
-    ("-T=utf8", "Utf8 "),
-    ("-T lint", "Lint least Base "),
-    ("-Tlint", "Lint least Base "),
-    ("-T=lint", "Lint least Base "),
-    ("-Tlint -Wall", "Lint least Base "),
-    ("-W base -T lint", "Lint least Base "),
-    ("-W base", "least Base "),
-    ("-Wbase", "least Base "),
-    ("-W all", "least Base "),
-    ("-Wall", "least Base "),
-    ("-W style", "least Style "),
-    ("-Wstyle", "least Style "),
-    ("-W=warning", "least Warning "),
-    ("-Wwarning", "least Warning "),
-    ("-W error", "least Error "),
-    ("-Werror", "least Error "),
-    ("-W unsupp", "least Unsupp "),
-    ("-W=unsupp", "least Unsupp "),
-    ("-T lint -W error", "Lint least Error "),
-    ("-Werror -Tlint", "Lint least Error "),
+// Command lines, with a bar between those that ask for the same.
+static TAKEN: [(&str, &str); 45] = [
+    ("-T ascii|-Tascii|-T=ascii", ""),
+    ("-T utf8|-Tutf8|-T=utf8", "Utf8 "),
+    (
+        "-T lint|-Tlint|-T=lint|-Tlint -Wall|-W base -T lint",
+        "Lint least Base ",
+    ),
+    ("-W base|-Wbase|-W all|-Wall", "least Base "),
+    ("-W style|-Wstyle", "least Style "),
+    ("-W=warning|-Wwarning", "least Warning "),
+    ("-W error|-Werror", "least Error "),
+    ("-W unsupp|-W=unsupp", "least Unsupp "),
+    ("-T lint -W error|-Werror -Tlint", "Lint least Error "),
     ("-O width=58", "width 58 "),
     ("-Owidth=300", "width 300 "),
     ("-O=width=000000060", "width 60 "),
     ("-O indent=0", "indent 0 "),
     ("-O indent=20", "indent 20 "),
-    ("-O width=60,indent=3", "width 60 indent 3 "),
-    ("-Oindent=3,width=60", "width 60 indent 3 "),
+    (
+        "-O width=60,indent=3|-Oindent=3,width=60",
+        "width 60 indent 3 ",
+    ),
     ("-K us-ascii", "from Ascii "),
     ("-Kiso-8859-1", "from Latin1 "),
     ("-K=utf-8", "from Utf8 "),
-    ("-mdoc", "Mdoc "),
-    ("-m doc", "Mdoc "),
-    ("-man", "Man "),
-    ("-m=an", "Man "),
-    ("-mandoc", ""),
-    ("-m andoc", ""),
-    ("-I os=System", "os System "),
-    ("-Ios=System", "os System "),
-    ("-I=os=System", "os System "),
+    ("-mdoc|-m doc", "Mdoc "),
+    ("-man|-m=an", "Man "),
+    ("-mandoc|-m andoc", ""),
+    ("-I os=System|-Ios=System|-I=os=System", "os System "),
     ("-Ios=-", "os - "),
     ("-I os=", ""),
-    ("page.1", "[page.1]"),
-    ("-- page.1", "[page.1]"),
-    ("page.1 --", "[page.1]"),
+    ("page.1|-- page.1|page.1 --", "[page.1]"),
     ("b.1 a.1 b.1", "[b.1][a.1][b.1]"),
     ("-", "[-]"),
     ("-- -Tlint --", "[-Tlint][--]"),
     ("-- makewhatis", "[makewhatis]"),
     ("page.1 whatis", "[page.1][whatis]"),
-    ("a.1 -Tutf8 b.1 -Owidth=60", "Utf8 width 60 [a.1][b.1]"),
-    ("-Tutf8 -O width=60 a.1 b.1", "Utf8 width 60 [a.1][b.1]"),
-    ("-O width=60 a.1 -T utf8 -- b.1", "Utf8 width 60 [a.1][b.1]"),
+    (
+        "a.1 -Tutf8 b.1 -Owidth=60|-Tutf8 -O width=60 a.1 b.1|-O width=60 a.1 -T utf8 -- b.1",
+        "Utf8 width 60 [a.1][b.1]",
+    ),
     ("makewhatis dir", "index [dir]"),
     ("makewhatis b a b", "index [b][a][b]"),
-    ("makewhatis -n dir", "print [dir]"),
-    ("makewhatis dir -n", "print [dir]"),
+    ("makewhatis -n dir|makewhatis dir -n", "print [dir]"),
     ("makewhatis -- -n", "index [-n]"),
     ("makewhatis whatis", "index [whatis]"),
     ("whatis ls", "entries [ls]"),
@@ -186,9 +169,11 @@ static TAKEN: [(&str, &str); 72] = [
 
 #[test]
 fn takes_good_words(rt: HostRuntime) {
-    for (line, wanted) in TAKEN.iter() {
-        let words = words_of(&rt, rt.alloc(), *line);
-        takes(&rt, rt.alloc(), words.as_slice(), *wanted);
+    for (lines, wanted) in TAKEN.iter() {
+        for line in lines.split('|') {
+            let words = words_of(&rt, rt.alloc(), line);
+            takes(&rt, rt.alloc(), words.as_slice(), *wanted);
+        }
     }
     takes(&rt, rt.alloc(), &[], "");
     takes(&rt, rt.alloc(), &[""], "[]");
@@ -199,97 +184,35 @@ fn takes_good_words(rt: HostRuntime) {
     takes(&rt, rt.alloc(), &in_none, "entries section \"\" [ls]");
 }
 
-static REFUSED: [&str; 83] = [
-    "-T",
-    "-T html",
-    "-T ASCII",
-    "-T=",
-    "-Tlint2",
-    "-T -",
-    "-T -Wall",
-    "-T -- page.1",
-    "-Tascii -Tutf8",
-    "-Tlint -Tlint",
-    "-W",
-    "-W none",
-    "-W warning -W error",
-    "-Wall -Wall",
-    "-W stop",
-    "-Wwarning,stop",
-    "-W Error",
-    "-W=",
-    "-W -Tlint",
+static REFUSED: [&str; 19] = [
+    "-T|-T html|-T ASCII|-T=|-Tlint2|-T -|-T -Wall|-T -- page.1",
+    "-Tascii -Tutf8|-Tlint -Tlint",
+    "-W|-W none|-W warning -W error|-Wall -Wall|-W stop|-Wwarning,stop",
+    "-W Error|-W=|-W -Tlint",
     "-w",
-    "-O",
-    "-O width=57",
-    "-O width=301",
-    "-O indent=21",
-    "-O width=60,width=70",
-    "-O indent=1,indent=1",
-    "-O tag=x",
-    "-O width",
-    "-O width=",
-    "-O =60",
-    "-O ,",
-    "-O width=60,",
-    "-O ,width=60",
-    "-O width=60,,indent=3",
-    "-O width=+60",
-    "-O width=-60",
-    "-O width=6o",
-    "-O width=0000000060",
-    "-O width=4294967354",
-    "-O Width=60",
-    "-O width=60 -O indent=3",
-    "-O width=60=60",
-    "-O width=60;indent=3",
-    "-O=",
+    "-O|-O width=57|-O width=301|-O indent=21|-O width=60,width=70",
+    "-O indent=1,indent=1|-O tag=x|-O width|-O width=|-O =60|-O ,",
+    "-O width=60,|-O ,width=60|-O width=60,,indent=3|-O width=+60|-O width=-60",
+    "-O width=6o|-O width=0000000060|-O width=4294967354|-O Width=60",
+    "-O width=60 -O indent=3|-O width=60=60|-O width=60;indent=3|-O=",
     "-O width=60,tag=x",
-    "-K",
-    "-K latin1",
-    "-K utf8",
-    "-K UTF-8",
-    "-Kutf-8 -Kutf-8",
-    "-I",
-    "-I System",
-    "-I os",
-    "-I OS=System",
-    "-I os=a -I os=b",
-    "-m",
-    "-m mdoc",
-    "-mdoc -man",
-    "-md",
-    "-m=",
-    "-x",
-    "-h",
-    "--help",
-    "-V",
-    "--version",
-    "--output lint",
-    "-5",
-    "page.1 -T",
-    "makewhatis",
-    "makewhatis -n",
-    "makewhatis -n -n dir",
-    "makewhatis -T ascii dir",
-    "makewhatis -w dir",
-    "makewhatis --help",
-    "whatis",
-    "whatis -w",
-    "whatis -s 5",
-    "whatis -M d",
-    "whatis -M",
-    "whatis -s 1 -s 1 ls",
-    "whatis -n ls",
-    "whatis -T ascii ls",
-    "whatis ls -h",
+    "-K|-K latin1|-K utf8|-K UTF-8|-Kutf-8 -Kutf-8",
+    "-I|-I System|-I os|-I OS=System|-I os=a -I os=b",
+    "-m|-m mdoc|-mdoc -man|-md|-m=|-x|-h|--help|-V|--version",
+    "--output lint|-5|page.1 -T",
+    "makewhatis|makewhatis -n|makewhatis -n -n dir|makewhatis -T ascii dir",
+    "makewhatis -w dir|makewhatis --help",
+    "whatis|whatis -w|whatis -s 5|whatis -M d|whatis -M|whatis -s 1 -s 1 ls",
+    "whatis -n ls|whatis -T ascii ls|whatis ls -h",
 ];
 
 #[test]
 fn refuses_bad_words(rt: HostRuntime) {
-    for line in REFUSED.iter() {
-        let words = words_of(&rt, rt.alloc(), *line);
-        refuses(&rt, rt.alloc(), words.as_slice());
+    for lines in REFUSED.iter() {
+        for line in lines.split('|') {
+            let words = words_of(&rt, rt.alloc(), line);
+            refuses(&rt, rt.alloc(), words.as_slice());
+        }
     }
     refuses(&rt, rt.alloc(), &["-I", "os=a\u{1}b"]);
     refuses(&rt, rt.alloc(), &["whatis", ""]);

@@ -5,8 +5,5 @@ pub mod RoomLemmas
 pub mod GlyphLemmas
 mod FeedLemmas
 pub mod PlaceLemmas
-pub mod ManPlaceLemmas
-pub mod MdocWordPlaceLemmas
-pub mod MdocPlaceLemmas
 pub mod SetPlaceLemmas
 pub mod FlagLemmas

@@ -5,15 +5,16 @@ use Rattle.page_core_base.specs.Limits.{LINE}
 use Rattle.page_core_base.specs.Texts.{TakenLine}
 use Rattle.page_sets.specs.Mdoc.{either_events}
 use Rattle.page_sets.specs.declared.either.Either.{Either}
-use Rattle.page_sets.specs.declared.either.Either.TheVariants as sets
 use Rattle.page_sets_lines.specs.declared.events.Event.{Event}
-use Rattle.page_laws.specs.Places.{ends_in_quote, prints_text, IsInLine, AreAll}
-use Rattle.page_laws.proofs.ManPlaceLemmas.{man_at}
-use Rattle.page_laws.proofs.MdocPlaceLemmas.{mdoc_at}
+use Rattle.page_sets_lines.specs.Lines.{name_end}
+use Rattle.page_sets_lines.specs.laws.Sets.{AreAll, prints_text}
+use Rattle.page_sets.specs.laws.Views.{either_lawful}
+use Rattle.page_laws.specs.Places.{ends_in_quote, IsInLine}
+use Rattle.page_laws.proofs.PlaceLemmas.{all_sit, name_in, start_in}
 
 pub all_in_line : (set : Either) (line : TakenLine) → AreAll (IsInLine line) (either_events set line)
-all_in_line sets.Man line = man_at line
-all_in_line sets.Mdoc line = mdoc_at line
+all_in_line set line =
+    (either_lawful (IsInLine line) set line (record { start = start_in line; name = name_in line; arguments = all_sit line (name_end line) })).each
 
 -- ---- each event of a list
 

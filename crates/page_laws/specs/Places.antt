@@ -6,10 +6,8 @@ use Rattle.page_core_base.specs.declared.lines_taken.Form.TheVariants.{Control}
 use Rattle.page_roff_syntax.specs.declared.quotes.Argument.{Argument}
 use Rattle.page_roff_syntax.specs.declared.quotes.Quoting.TheVariants.{Unclosed}
 use Rattle.page_sets_lines.specs.Lines.{generated_word, line_end, word_event, word_place}
+use Rattle.page_sets_lines.specs.laws.Sets.{prints_text}
 use Rattle.page_sets_lines.specs.declared.events.Event.{Event}
-use Rattle.page_sets_lines.specs.declared.events.EventKind.{EventKind}
-use Rattle.page_sets_lines.specs.declared.events.EventKind.TheVariants as kinds
-use Rattle.page_sets_lines.specs.declared.leaves.Leaf.TheVariants as leaves
 use Rattle.page_sets_lines.specs.declared.events.Join.TheVariants.{Apart, Glued}
 use Rattle.page_sets_lines.specs.declared.events.Role.TheVariants as roles
 use Rattle.page_sets_names.specs.declared.generated_texts.GeneratedText.TheVariants.{Dash}
@@ -19,12 +17,6 @@ abbrev pub ends_in_quote : List ℕ → Bool
 ends_in_quote [] = false
 ends_in_quote (byte ∷ []) = byte == 34
 ends_in_quote (byte ∷ next ∷ bytes) = ends_in_quote (next ∷ bytes)
-
--- an event prints an argument, or a text of the macro's own
-abbrev pub prints_text : EventKind (List ℕ) → Bool
-prints_text (kinds.Word word) = true
-prints_text (kinds.Leaf (leaves.Generated word)) = true
-prints_text _ = false
 
 -- the last column at which an event of a text may be: that of its last byte, or, of what prints, the next one where that byte is a quote, after which
 -- an argument without bytes begins; of a text without bytes it is the first column
@@ -36,11 +28,6 @@ pub record IsInLine (line : TakenLine) (event : Event (List ℕ)) : Type 0 where
   pub number : event.place.line ≡ line.number
   pub begins : 1 ≤ event.place.column
   pub ends : event.place.column ≤ last_column (prints_text event.kind) line.text
-
--- each event is so
-abbrev pub AreAll : (Event (List ℕ) → Type 0) → List (Event (List ℕ)) → Type 0
-AreAll IsSo [] = Unit {0}
-AreAll IsSo (event ∷ events) = IsSo event × AreAll IsSo events
 
 -- ---- a line that has an event at the column after its last byte
 

@@ -6,7 +6,8 @@ ghost use Rattle.page_core_base.specs.Texts.{TakenLine};
 ghost use Rattle.page_sets.specs.Mdoc.{either_events};
 ghost use Rattle.page_sets.specs.declared.either.Either.{Either};
 ghost use Rattle.page_sets.specs.declared.either.Either.TheVariants.{Mdoc};
-ghost use Rattle.page_laws.specs.Places.{AreAll, IsInLine, flag_events, flag_line};
+ghost use Rattle.page_sets_lines.specs.laws.Sets.{AreAll};
+ghost use Rattle.page_laws.specs.Places.{IsInLine, flag_events, flag_line};
 
 /// Each event of a line has the line's number, and the column of one of its bytes, from 1 (the first where the line has none); only an event that prints
 /// may be in the column after the last byte, and only where that byte is a quote (man(7), mdoc(7)). `last`: the dash that `Fl` prints before an argument

@@ -18,7 +18,7 @@ impl MacroSet for Either {
     ghost use Rattle.std.specs.Prelude.{◌≤◌, length, drop};
     ghost use Rattle.page_sets_lines.proofs.NthLemmas.{slices_after};
     ghost use Rattle.page_sets.specs.Mdoc.{either_indent, either_events};
-    ghost use Rattle.page_sets.specs.laws.Views.{either_slices, either_in_order, either_few};
+    ghost use Rattle.page_sets.specs.laws.Views.{either_laws};
 
     type Place = usize;
 
@@ -30,13 +30,13 @@ impl MacroSet for Either {
 
     ghost events_from = { λ set line place. drop place (either_events set line) };
 
-    ghost slices = { λ set line. either_slices set line };
+    ghost slices = { λ set line. (either_laws set line).each };
 
-    ghost slices_from = { λ set line place fits. slices_after line.text place (either_events set line) (either_slices set line) };
+    ghost slices_from = { λ set line place fits. slices_after line.text place (either_events set line) (either_laws set line).each };
 
-    ghost in_order = { λ set line. either_in_order set line };
+    ghost in_order = { λ set line. (either_laws set line).order };
 
-    ghost few = { λ set line. either_few set line };
+    ghost few = { λ set line. (either_laws set line).few };
 
     fn indent(&self) -> u32 {
         match self {

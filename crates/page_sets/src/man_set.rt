@@ -14,7 +14,7 @@ pub struct Man;
 impl MacroSet for Man {
     ghost use Rattle.std.specs.Prelude.{◌≤◌, length, drop};
     ghost use Rattle.page_sets.specs.Man.{man_events};
-    ghost use Rattle.page_sets.specs.machine.ManLaws.{man_slices, man_in_order, man_few};
+    ghost use Rattle.page_sets.specs.machine.ManLaws.{man_laws};
     ghost use Rattle.page_sets_lines.proofs.NthLemmas.{slices_after};
 
     type Place = usize;
@@ -27,13 +27,13 @@ impl MacroSet for Man {
 
     ghost events_from = { λ set line place. drop place (man_events line) };
 
-    ghost slices = { λ set line. man_slices line };
+    ghost slices = { λ set line. (man_laws line).each };
 
-    ghost slices_from = { λ set line place fits. slices_after line.text place (man_events line) (man_slices line) };
+    ghost slices_from = { λ set line place fits. slices_after line.text place (man_events line) (man_laws line).each };
 
-    ghost in_order = { λ set line. man_in_order line };
+    ghost in_order = { λ set line. (man_laws line).order };
 
-    ghost few = { λ set line. man_few line };
+    ghost few = { λ set line. (man_laws line).few };
 
     fn indent(&self) -> u32 {
         PAGE_INDENT

@@ -14,7 +14,7 @@ pub struct Mdoc;
 impl MacroSet for Mdoc {
     ghost use Rattle.std.specs.Prelude.{◌≤◌, length, drop};
     ghost use Rattle.page_sets.specs.Mdoc.{mdoc_events};
-    ghost use Rattle.page_sets.specs.machine.MdocLaws.{mdoc_slices, mdoc_in_order, mdoc_few};
+    ghost use Rattle.page_sets.specs.machine.MdocLaws.{mdoc_laws};
     ghost use Rattle.page_sets_lines.proofs.NthLemmas.{slices_after};
 
     type Place = usize;
@@ -27,13 +27,13 @@ impl MacroSet for Mdoc {
 
     ghost events_from = { λ set line place. drop place (mdoc_events line) };
 
-    ghost slices = { λ set line. mdoc_slices line };
+    ghost slices = { λ set line. (mdoc_laws line).each };
 
-    ghost slices_from = { λ set line place fits. slices_after line.text place (mdoc_events line) (mdoc_slices line) };
+    ghost slices_from = { λ set line place fits. slices_after line.text place (mdoc_events line) (mdoc_laws line).each };
 
-    ghost in_order = { λ set line. mdoc_in_order line };
+    ghost in_order = { λ set line. (mdoc_laws line).order };
 
-    ghost few = { λ set line. mdoc_few line };
+    ghost few = { λ set line. (mdoc_laws line).few };
 
     fn indent(&self) -> u32 {
         PAGE_INDENT

@@ -1,5 +1,5 @@
 -- The laws of macro sets, event by event: helpers of proofs.
-use Rattle.std.proofs.Common.{◌≡◌, ℕ, ◌+◌, ◌-◌, ◌≤◌, ◌<◌, ◌==◌, Bool, true, false, List, [], ◌∷◌, ◌++◌, length, drop, refl, arith, length-drop, Option, None, Some}
+use Rattle.std.proofs.Common.{◌≡◌, ℕ, ◌+◌, ◌-◌, ◌≤◌, ◌<◌, ◌==◌, Bool, true, false, List, [], ◌∷◌, length, drop, refl, arith, length-drop, Option, None, Some}
 use Rattle.std.proofs.lemmas.List.Sums.{prefix_len-le-length}
 use Rattle.std.proofs.Math.Seq.{take-length}
 use Rattle.std.proofs.lemmas.Bool.Decides.{nat_tests}
@@ -8,12 +8,11 @@ use Rattle.page_roff_syntax.specs.declared.quotes.Argument.{Argument}
 use Rattle.page_roff_syntax.specs.LineForms.{is_white}
 use Rattle.page_sets_lines.specs.declared.events.EventKind.{EventKind}
 use Rattle.page_sets_lines.specs.declared.events.EventKind.TheVariants as kinds
-use Rattle.page_sets_lines.specs.declared.events.Event.{Event}
 use Rattle.page_sets_lines.specs.declared.plain_lines.PlainLine.{PlainLine}
 use Rattle.page_sets_lines.specs.declared.plain_lines.PlainLine.TheVariants as lines
 use Rattle.page_roff_syntax.specs.declared.requests.LayoutRequest.{LayoutRequest}
 use Rattle.page_roff_syntax.specs.declared.requests.LayoutRequest.TheVariants as layout
-use Rattle.page_sets_lines.specs.laws.Sets.{IsSlice, IsPart, IsArgument, IsPartIfGiven, IsArgumentIfGiven, RequestsSlices, HasSlices, AreSlices, past, BeginsFrom, AreInOrder}
+use Rattle.page_sets_lines.specs.laws.Sets.{IsSlice, IsPart, IsArgument, IsPartIfGiven, IsArgumentIfGiven, RequestsSlices, HasSlices, BeginsFrom}
 use Rattle.page_sets_lines.specs.Lines.{before_name, name_end, name_of, is_nameless, arguments_after, first_of, second_of, text_of, plain_kind, request}
 use Rattle.page_sets_lines.proofs.ArgumentLaws.{ArgumentsFrom, all_after, cut_at}
 
@@ -82,40 +81,11 @@ line_slices lines.Words text = record { column = omega arith; slice = whole_slic
 line_slices lines.Blank text = tt
 line_slices _ text = whole_part text
 
-pub AreSlices-append : (line : List ℕ) (front rest : List (Event (List ℕ))) → AreSlices line front → AreSlices line rest → AreSlices line (front ++ rest)
-AreSlices-append line [] rest h k = k
-AreSlices-append line (event ∷ front) rest h k = (h.0, AreSlices-append line front rest h.1 k)
-
 -- ---- order
 
 abbrev pub is_word : EventKind (List ℕ) → Bool
 is_word (kinds.Word word) = true
 is_word _ = false
-
--- none of the events is a word
-abbrev pub HasNoWord : List (Event (List ℕ)) → Type 0
-HasNoWord [] = Unit {0}
-HasNoWord (event ∷ events) = (is_word event.kind ≡ false) × HasNoWord events
-
-no_word_passes : (from : ℕ) (kind : EventKind (List ℕ)) → is_word kind ≡ false → BeginsFrom from kind × (past from kind ≡ from)
-no_word_passes from (kinds.Word word) h = cc
-no_word_passes from _ h = (tt, refl)
-
-pub order_after : (from : ℕ) (front rest : List (Event (List ℕ))) → HasNoWord front → AreInOrder from rest → AreInOrder from (front ++ rest)
-order_after from [] rest h k = k
-order_after from (event ∷ front) rest h k =
-    let p = no_word_passes from event.kind h.0 in
-    (p.0, rw p.1 (order_after from front rest h.1 k))
-
-order_of_none : (from : ℕ) (events : List (Event (List ℕ))) → HasNoWord events → AreInOrder from events
-order_of_none from [] h = tt
-order_of_none from (event ∷ events) h =
-    let p = no_word_passes from event.kind h.0 in
-    (p.0, order_of_none (past from event.kind) events h.1)
-
-pub order_before : (from : ℕ) (words rest : List (Event (List ℕ))) → AreInOrder from words → HasNoWord rest → AreInOrder from (words ++ rest)
-order_before from [] rest h k = order_of_none from rest k
-order_before from (event ∷ words) rest h k = (h.0, order_before (past from event.kind) words rest h.1 k)
 
 pub line_order : (line : PlainLine) (text : List ℕ) → BeginsFrom 0 (plain_kind line text)
 line_order lines.Words text = omega arith

@@ -1,6 +1,8 @@
 pub mod ArgumentLaws
+pub mod EventLemmas
 pub mod LawLemmas
 pub mod OrderLemmas
+pub mod PrintLemmas
 pub mod QuoteLemmas
 pub mod FitLemmas
 pub mod SliceLemmas

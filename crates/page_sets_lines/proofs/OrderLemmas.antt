@@ -1,5 +1,5 @@
 -- Words that are arguments in their order are in order: helpers of proofs.
-use Rattle.std.proofs.Common.{◌≡◌, ℕ, zero, suc, ◌+◌, ◌≤◌, List, [], ◌∷◌, ◌++◌, length, take, drop, refl, sym, ap, ◌∙◌, arith}
+use Rattle.std.proofs.Common.{◌≡◌, ℕ, ◌+◌, ◌≤◌, List, [], ◌∷◌, ◌++◌, length, sym, ap, ◌∙◌, append_assoc, arith}
 use Rattle.page_roff_syntax.specs.declared.quotes.Argument.{Argument}
 use Rattle.page_sets_lines.specs.declared.events.EventKind.{EventKind}
 use Rattle.page_sets_lines.specs.declared.events.EventKind.TheVariants as kinds
@@ -24,17 +24,13 @@ TakesInOrder [] arguments = Unit {0}
 TakesInOrder (event ∷ events) arguments =
     (after : List (Argument (List ℕ))) × Takes event.kind arguments after × TakesInOrder events after
 
-pub joined : (xs ys zs : List (Argument (List ℕ))) → (xs ++ ys) ++ zs ≡ xs ++ (ys ++ zs)
-joined [] ys zs = refl
-joined (x ∷ xs) ys zs = ap (λ l. x ∷ l) (joined xs ys zs)
-
 -- ---- with more arguments in front
 
 later_one : (kind : EventKind (List ℕ)) (events : List (Event (List ℕ))) (front arguments after : List (Argument (List ℕ)))
     → Takes kind arguments after → TakesInOrder events after → TakesInOrder events (front ++ after)
     → (left : List (Argument (List ℕ))) × Takes kind (front ++ arguments) left × TakesInOrder events left
 later_one (kinds.Word word) events front arguments after h k m =
-    (after, record { before = front ++ h.before; split = ap (λ l. front ++ l) h.split ∙ sym (joined front h.before (word.arg ∷ after)) }, k)
+    (after, record { before = front ++ h.before; split = ap (λ l. front ++ l) h.split ∙ sym (append_assoc front h.before (word.arg ∷ after)) }, k)
 later_one _ events front arguments after h k m = (front ++ after, ap (λ l. front ++ l) h, m)
 
 pub takes_later : (events : List (Event (List ℕ))) (front arguments : List (Argument (List ℕ)))
@@ -48,7 +44,7 @@ takes_later (event ∷ events) front arguments h =
 more_behind : (kind : EventKind (List ℕ)) (arguments after behind : List (Argument (List ℕ)))
     → Takes kind arguments after → Takes kind (arguments ++ behind) (after ++ behind)
 more_behind (kinds.Word word) arguments after behind h =
-    record { before = h.before; split = ap (λ l. l ++ behind) h.split ∙ joined h.before (word.arg ∷ after) behind }
+    record { before = h.before; split = ap (λ l. l ++ behind) h.split ∙ append_assoc h.before (word.arg ∷ after) behind }
 more_behind _ arguments after behind h = ap (λ l. l ++ behind) h
 
 pub TakesInOrder-append : (events more : List (Event (List ℕ))) (arguments behind : List (Argument (List ℕ)))
@@ -56,8 +52,6 @@ pub TakesInOrder-append : (events more : List (Event (List ℕ))) (arguments beh
 TakesInOrder-append [] more arguments behind h k = takes_later more arguments behind k
 TakesInOrder-append (event ∷ events) more arguments behind h k =
     (h.0 ++ behind, more_behind event.kind arguments h.0 behind h.1, TakesInOrder-append events more h.0 behind h.2 k)
-
--- ---- no words
 
 -- ---- order
 
@@ -94,19 +88,3 @@ from_one line from (argument ∷ arguments) h = (h.1, from_one line (argument.co
 
 pub all_arguments : (line : List ℕ) (start : ℕ) → AreArguments line (arguments_after start line)
 all_arguments line start = from_one line (start + 1) (arguments_after start line) (all_after line start)
-
-pub AreArguments-take : (line : List ℕ) (n : ℕ) (arguments : List (Argument (List ℕ))) → AreArguments line arguments → AreArguments line (take n arguments)
-AreArguments-take line zero arguments h = tt
-AreArguments-take line (suc n) [] h = tt
-AreArguments-take line (suc n) (argument ∷ arguments) h = (h.0, AreArguments-take line n arguments h.1)
-
-pub AreArguments-drop : (line : List ℕ) (n : ℕ) (arguments : List (Argument (List ℕ))) → AreArguments line arguments → AreArguments line (drop n arguments)
-AreArguments-drop line zero arguments h = h
-AreArguments-drop line (suc n) [] h = tt
-AreArguments-drop line (suc n) (argument ∷ arguments) h = AreArguments-drop line n arguments h.1
-
-pub AreArguments-split : (line : List ℕ) (front rest : List (Argument (List ℕ))) → AreArguments line (front ++ rest) → AreArguments line front × AreArguments line rest
-AreArguments-split line [] rest h = (tt, h)
-AreArguments-split line (argument ∷ front) rest h =
-    let k = AreArguments-split line front rest h.1 in
-    ((h.0, k.0), k.1)

@@ -1,4 +1,4 @@
-pub mod PrintLemmas
+pub mod WordPrintLemmas
 pub mod MacroPrintLemmas
 pub mod SentenceLemmas
 pub mod SynopsisLemmas

@@ -5,36 +5,24 @@ ghost use Rattle.page_worked.specs.Pages.{Shows, plain, utf8, bold, italic, bold
 
 /// Text.
 pub fn text_pages_1()
-    // two blanks after a sentence (roff(7), Sentences)
     ensures two_blanks_after_a_sentence { Shows plain (man_page (codes "One.\nTwo\n")) (man_rows (codes "       One.  Two\n")) [] }
-    // closing marks after a sentence's end (roff(7), Sentences)
     ensures closing_marks_after_a_sentence_s_end { Shows plain (man_page (codes "(One!)\n\"Two?'\"]\nx\n"))
         (man_rows (codes "       (One!)  \"Two?'\"]  x\n")) [] }
-    // no sentence ends in an escape (roff(7), Sentences)
     ensures no_sentence_ends_in_an_escape { Shows plain (man_page (codes "e.g.\\&\nb\n")) (man_rows (codes "       e.g. b\n")) [] }
-    // no sentence ends before a font (roff(7), Sentences)
     ensures no_sentence_ends_before_a_font { Shows plain (man_page (codes "foo.\\fR\nb\n")) (man_rows (codes "       foo. b\n")) [] }
-    // a sentence ends as it is written (roff(7), Sentences)
     ensures a_sentence_ends_as_it_is_written { Shows plain (man_page (codes "foo\\.\nb\n")) (man_rows (codes "       foo.  b\n")) [] }
-    // no sentence ends before a blank that an escape takes (roff(7), Sentences)
-    ensures no_sentence_ends_before_a_blank_that_an_escape { Shows plain (man_page (codes "i\\[. \nc\n")) (man_rows (codes "       i c\n"))
+    ensures no_sentence_ends_before_a_blank_that_an_escape_takes { Shows plain (man_page (codes "i\\[. \nc\n")) (man_rows (codes "       i c\n"))
         (codes "mandoc: x.1:3:5: STYLE: whitespace at end of input line\nmandoc: x.1:3:1: WARNING: invalid escape sequence: \\[. \n") }
-    // a tab between words (roff(7), LANGUAGE SYNTAX)
     ensures a_tab_between_words { Shows plain (man_page (codes "a\tb\n")) (man_rows (codes "       a b\n"))
         (codes "mandoc: x.1:3:3: WARNING: tab in filled text\n") }
-    // a tab before a word that prints nothing (roff(7), LANGUAGE SYNTAX)
     ensures a_tab_before_a_word_that_prints_nothing { Shows plain (man_page (codes "a\t\\& b\n")) (man_rows (codes "       a b\n")) [] }
-    // a tab at a line's end (roff(7), LANGUAGE SYNTAX)
     ensures a_tab_at_a_line_s_end { Shows plain (man_page (codes "a\t\nb\n")) (man_rows (codes "       a b\n"))
         (codes "mandoc: x.1:3:2: STYLE: whitespace at end of input line\n") }
-    // blanks and a tab at a line's front (roff(7), LANGUAGE SYNTAX)
     ensures blanks_and_a_tab_at_a_line_s_front { Shows plain (man_page (codes "a\n \tb\n")) (man_rows (codes "       a\n         b\n"))
         (codes "mandoc: x.1:4:3: WARNING: tab in filled text\n") }
-    // a row ends after a hyphen between two letters (roff(7), Filling and adjusting)
     ensures a_row_ends_after_a_hyphen_between_two_letters { Shows plain
         (man_page (codes "aaaaaaaaaaaaaaaaaaaaaaaaaaaaaaaaaaaaaaaaaaaaaaaaaaaaaaaaaaaa bbbb-cccccccc\n"))
         (man_rows (codes "       aaaaaaaaaaaaaaaaaaaaaaaaaaaaaaaaaaaaaaaaaaaaaaaaaaaaaaaaaaaa bbbb-\n       cccccccc\n")) [] }
-    // no row ends after a hyphen that is an escape (roff(7), Filling and adjusting)
     ensures no_row_ends_after_a_hyphen_that_is_an_escape { Shows plain
         (man_page (codes "aaaaaaaaaaaaaaaaaaaaaaaaaaaaaaaaaaaaaaaaaaaaaaaaaaaaaaaaaaaa bbbb\\-cccccccc\n"))
         (man_rows (codes "       aaaaaaaaaaaaaaaaaaaaaaaaaaaaaaaaaaaaaaaaaaaaaaaaaaaaaaaaaaaa\n       bbbb-cccccccc\n")) [] }
@@ -42,30 +30,24 @@ pub fn text_pages_1()
 
 /// Text.
 pub fn text_pages_2()
-    // a part with its hyphen fits exactly (roff(7), Filling and adjusting)
     ensures a_part_with_its_hyphen_fits_exactly { Shows plain
         (man_page (codes "aaaaaaaaaaaaaaaaaaaaaaaaaaaaaaaaaaaaaaaaaaaaaaaaaaaaaaaaaaaa bbbbbbbbb-cccccccc\n"))
         (man_rows (codes "       aaaaaaaaaaaaaaaaaaaaaaaaaaaaaaaaaaaaaaaaaaaaaaaaaaaaaaaaaaaa bbbbbbbbb-\n       cccccccc\n")) [] }
-    // a part that is a column too long for its hyphen (roff(7), Filling and adjusting)
     ensures a_part_that_is_a_column_too_long_for_its_hyphen { Shows plain
         (man_page (codes "aaaaaaaaaaaaaaaaaaaaaaaaaaaaaaaaaaaaaaaaaaaaaaaaaaaaaaaaaaaa bbbbbbbbbb-cccccccc\n"))
         (man_rows (codes "       aaaaaaaaaaaaaaaaaaaaaaaaaaaaaaaaaaaaaaaaaaaaaaaaaaaaaaaaaaaa\n       bbbbbbbbbb-cccccccc\n")) [] }
-    // the first word of a row, cut after its hyphen (roff(7), Filling and adjusting)
     ensures the_first_word_of_a_row_cut_after_its_hyphen { Shows plain
         (man_page (codes "aaaaaaaaaaaaaaaaaaaaaaaaaaaaaaaaaaaaaaaaaaaaaaaaaaaaaaaaaaaaaaaaaaaaaaaaaaaaaaaa-bbbbb\n"))
         (man_rows (codes "       aaaaaaaaaaaaaaaaaaaaaaaaaaaaaaaaaaaaaaaaaaaaaaaaaaaaaaaaaaaaaaaaaaaaaaaaaaaaaaaa-\n       bbbbb\n")) [] }
-    // the part after a hyphen goes on in the next line (roff(7), Filling and adjusting)
     ensures the_part_after_a_hyphen_goes_on_in_the_next_line { Shows plain
         (man_page (codes "aaaaaaaaaaaaaaaaaaaaaaaaaaaaaaaaaaaaaaaaaaaaaaaaaaaaaaaaaaaa\nbbbb-ccc\\c\nccccc\n"))
         (man_rows (codes "       aaaaaaaaaaaaaaaaaaaaaaaaaaaaaaaaaaaaaaaaaaaaaaaaaaaaaaaaaaaa bbbb-\n       cccccccc\n")) [] }
-    // a row ends after the last hyphen that fits (roff(7), Filling and adjusting)
     ensures a_row_ends_after_the_last_hyphen_that_fits { Shows plain
         (man_page (codes "aaaaaaaaaaaaaaaaaaaaaaaaaaaaaaaaaaaaaaaaaaaaaaaaaaaaaaaaaaaaaaaaaa bb-cc-dd\n.PP\n" ++
         codes "aaaaaaaaaaaaaaaaaaaaaaaaaaaaaaaaaaaaaaaaaaaaaaaaaaaaaaaaaaaaaaa bb-cc-dd\n"))
         (man_rows (codes "       aaaaaaaaaaaaaaaaaaaaaaaaaaaaaaaaaaaaaaaaaaaaaaaaaaaaaaaaaaaaaaaaaa bb-\n       cc-dd\n\n" ++
         codes "       aaaaaaaaaaaaaaaaaaaaaaaaaaaaaaaaaaaaaaaaaaaaaaaaaaaaaaaaaaaaaaa bb-cc-\n       dd\n")) [] }
-    // no row ends after a hyphen without a letter on both sides (roff(7), Filling and adjusting)
-    ensures no_row_ends_after_a_hyphen_without_a_letter_on { Shows plain
+    ensures no_row_ends_after_a_hyphen_without_a_letter_on_both_sides { Shows plain
         (man_page (codes "aaaaaaaaaaaaaaaaaaaaaaaaaaaaaaaaaaaaaaaaaaaaaaaaaaaaaaaaaaaaaaaaaaa bb--cc\n.PP\n" ++
         codes "aaaaaaaaaaaaaaaaaaaaaaaaaaaaaaaaaaaaaaaaaaaaaaaaaaaaaaaaaaaaaaaaaaaa --x\n.PP\naaaaaaaaaaaaaaaaaaaaaaaaaaaaaaaaaaaaaaaaaaaaaaaaaaaaaaaaaaaaaaaaaaa xx-1\n" ++
         codes ".PP\naaaaaaaaaaaaaaaaaaaaaaaaaaaaaaaaaaaaaaaaaaaaaaaaaaaaaaaaaaaaaaaaaaaa 1-xx\n.PP\n" ++
@@ -76,12 +58,10 @@ pub fn text_pages_2()
         codes "       aaaaaaaaaaaaaaaaaaaaaaaaaaaaaaaaaaaaaaaaaaaaaaaaaaaaaaaaaaaaaaaaaaaa\n       1-xx\n\n" ++
         codes "       aaaaaaaaaaaaaaaaaaaaaaaaaaaaaaaaaaaaaaaaaaaaaaaaaaaaaaaaaaaaaaaaaaaaa\n       -x\n\n" ++
         codes "       aaaaaaaaaaaaaaaaaaaaaaaaaaaaaaaaaaaaaaaaaaaaaaaaaaaaaaaaaaaaaaaaaaaaa\n       x-\n")) [] }
-    // a hyphen after an escape has no letter before it (roff(7), Filling and adjusting)
     ensures a_hyphen_after_an_escape_has_no_letter_before_it { Shows plain
         (man_page (codes "aaaaaaaaaaaaaaaaaaaaaaaaaaaaaaaaaaaaaaaaaaaaaaaaaaaaaaaaaaaaaaa \\fBbb-cc\\fR-dd\n"))
         (man_rows (codes "       aaaaaaaaaaaaaaaaaaaaaaaaaaaaaaaaaaaaaaaaaaaaaaaaaaaaaaaaaaaaaaa " ++ bold (codes "bb-") ++ codes "\n       " ++ bold (codes "cc") ++
         codes "-dd\n")) [] }
-    // words with hyphens, on one line and on a line each (roff(7), Filling and adjusting)
     ensures words_with_hyphens_on_one_line_and_on_a_line_each { Shows (record plain { width = 58 }) (codes ".TH T 1 2020-01-01 S\n.SH A\n" ++
         codes "aa-bb-cc ddd-eee f-g hhhh-iiii-jjjj k-l-m-n-o-p qq-rr sss-ttt uuuu-v w-xx-yyy-zzzz aa-bb-cc ddd-eee f-g hhhh-iiii-jjjj k-l-m-n-o-p qq-rr sss-ttt uuuu-v w-xx-yyy-zzzz\n" ++
         codes ".PP\naa-bb-cc\nddd-eee\nf-g\nhhhh-iiii-jjjj\nk-l-m-n-o-p\nqq-rr\nsss-ttt\nuuuu-v\nw-xx-yyy-zzzz\naa-bb-cc\nddd-eee\nf-g\nhhhh-iiii-jjjj\nk-l-m-n-o-p\nqq-rr\nsss-ttt\n" ++
@@ -90,20 +70,16 @@ pub fn text_pages_2()
         codes "       g hhhh-iiii-jjjj k-l-m-n-o-p qq-rr sss-ttt uuuu-v\n       w-xx-yyy-zzzz\n\n       aa-bb-cc ddd-eee f-g hhhh-iiii-jjjj k-l-m-n-o-p qq-\n" ++
         codes "       rr sss-ttt uuuu-v w-xx-yyy-zzzz aa-bb-cc ddd-eee f-\n       g hhhh-iiii-jjjj k-l-m-n-o-p qq-rr sss-ttt uuuu-v\n       w-xx-yyy-zzzz\n\n" ++
         codes "S                       2020-01-01                    T(1)\n") [] }
-    // no row ends after a hyphen with which a line ends that is glued to the next one (roff(7), Filling and adjusting)
-    ensures no_row_ends_after_a_hyphen_with_which_a_line_ends { Shows plain
+    ensures no_row_ends_after_a_hyphen_with_which_a_line_ends_that_is_glued_to_the { Shows plain
         (man_page (codes "aaaaaaaaaaaaaaaaaaaaaaaaaaaaaaaaaaaaaaaaaaaaaaaaaaaaaaaaaaaa\nbbbb-\\c\nccccccc\n"))
         (man_rows (codes "       aaaaaaaaaaaaaaaaaaaaaaaaaaaaaaaaaaaaaaaaaaaaaaaaaaaaaaaaaaaa\n       bbbb-ccccccc\n")) [] }
-    // glued text that fits up to its hyphen, and that passes the width at it (roff(7), Filling and adjusting)
-    ensures glued_text_that_fits_up_to_its_hyphen_and_that { Shows plain
+    ensures glued_text_that_fits_up_to_its_hyphen_and_that_passes_the_width_at_it { Shows plain
         (man_page (codes "aaaaaaaaaaaaaaaaaaaaaaaaaaaaaaaaaaaaaaaaaaaaaaaaaaaaaaaaaaaa\nbbbb-cc\\c\ndd-eeeee\n.PP\naaaaaaaaaaaaaaaaaaaaaaaaaaaaaaaaaaaaaaaaaaaaaaaaaaaaaaaaaaaa\n" ++
         codes "bbbb-cc\\c\nddd-eeeee\n"))
         (man_rows (codes "       aaaaaaaaaaaaaaaaaaaaaaaaaaaaaaaaaaaaaaaaaaaaaaaaaaaaaaaaaaaa bbbb-ccdd-\n       eeeee\n\n" ++
         codes "       aaaaaaaaaaaaaaaaaaaaaaaaaaaaaaaaaaaaaaaaaaaaaaaaaaaaaaaaaaaa bbbb-\n       ccddd-eeeee\n")) [] }
-    // two words that fill a row (roff(7), Filling and adjusting)
     ensures two_words_that_fill_a_row { Shows plain (man_page (codes "aaaaaaaaaaaaaaaaaaaaaaaaaaaaaaaaaaa bbbbbbbbbbbbbbbbbbbbbbbbbbbbbbbbbbb\n"))
         (man_rows (codes "       aaaaaaaaaaaaaaaaaaaaaaaaaaaaaaaaaaa bbbbbbbbbbbbbbbbbbbbbbbbbbbbbbbbbbb\n")) [] }
-    // two words that are a column too long for a row (roff(7), Filling and adjusting)
     ensures two_words_that_are_a_column_too_long_for_a_row { Shows plain
         (man_page (codes "aaaaaaaaaaaaaaaaaaaaaaaaaaaaaaaaaaa bbbbbbbbbbbbbbbbbbbbbbbbbbbbbbbbbbbb\n"))
         (man_rows (codes "       aaaaaaaaaaaaaaaaaaaaaaaaaaaaaaaaaaa\n       bbbbbbbbbbbbbbbbbbbbbbbbbbbbbbbbbbbb\n")) [] }
@@ -111,8 +87,7 @@ pub fn text_pages_2()
 
 /// Text.
 pub fn text_pages_3()
-    // a word that is longer than a row, alone and after another (roff(7), Filling and adjusting)
-    ensures a_word_that_is_longer_than_a_row_alone_and_after { Shows plain
+    ensures a_word_that_is_longer_than_a_row_alone_and_after_another { Shows plain
         (man_page (codes "wwwwwwwwwwwwwwwwwwwwwwwwwwwwwwwwwwwwwwwwwwwwwwwwwwwwwwwwwwwwwwwwwwwwwwww\n.PP\n" ++
         codes "a wwwwwwwwwwwwwwwwwwwwwwwwwwwwwwwwwwwwwwwwwwwwwwwwwwwwwwwwwwwwwwwwwwwwwwww\n"))
         (man_rows (codes "       wwwwwwwwwwwwwwwwwwwwwwwwwwwwwwwwwwwwwwwwwwwwwwwwwwwwwwwwwwwwwwwwwwwwwwww\n\n       a\n" ++
@@ -121,98 +96,67 @@ pub fn text_pages_3()
 
 /// Escapes.
 pub fn escapes_pages_1()
-    // fonts of escapes (roff(7), \f)
     ensures fonts_of_escapes { Shows plain (man_page (codes "a \\fBb\\fIc\\fPd\\fR e\n"))
         (man_rows (codes "       a " ++ bold (codes "b") ++ italic (codes "c") ++ bold (codes "d") ++ codes " e\n")) [] }
-    // the former font, again and again (roff(7), \f)
     ensures the_former_font_again_and_again { Shows plain (man_page (codes "\\fBx\\fPy\\fPz\n"))
         (man_rows (codes "       " ++ bold (codes "x") ++ codes "y" ++ bold (codes "z") ++ codes "\n")) [] }
-    // fonts by other names (roff(7), \f)
     ensures fonts_by_other_names { Shows plain (man_page (codes "\\f3x\\f(CWy\\f[BI]z\\f1w\n"))
         (man_rows (codes "       " ++ bold (codes "x") ++ codes "y" ++ bold_italic (codes "z") ++ codes "w\n")) [] }
-    // a font stays over lines, and a paragraph ends it (roff(7), \f; man(7), PP)
     ensures a_font_stays_over_lines_and_a_paragraph_ends_it { Shows plain (man_page (codes "\\fBa\nb\n.PP\nc\n"))
         (man_rows (codes "       " ++ bold (codes "a") ++ codes " " ++ bold (codes "b") ++ codes "\n\n       c\n")) [] }
-    // a font that there is not (roff(7), \f)
     ensures a_font_that_there_is_not { Shows plain (man_page (codes "\\f[XX]a\n")) (man_rows (codes "       a\n"))
         (codes "mandoc: x.1:3:1: WARNING: unknown font, skipping request: XX\n") }
-    // a line's end is glued (roff(7), \c)
     ensures a_line_s_end_is_glued { Shows plain (man_page (codes "ab\\c\ncd\n")) (man_rows (codes "       abcd\n")) [] }
-    // a blank after it parts (roff(7), \c)
     ensures a_blank_after_it_parts { Shows plain (man_page (codes "ab\\c \ncd\n")) (man_rows (codes "       ab cd\n"))
         (codes "mandoc: x.1:3:5: STYLE: whitespace at end of input line\n") }
-    // elsewhere it prints nothing (roff(7), \c)
     ensures elsewhere_it_prints_nothing { Shows plain (man_page (codes "a\\cb\nc\n")) (man_rows (codes "       ab c\n")) [] }
-    // a break undoes it (roff(7), \c and br)
     ensures a_break_undoes_it { Shows plain (man_page (codes "ab\\c\n.br\ncd\n")) (man_rows (codes "       ab\n       cd\n")) [] }
-    // a glyph (mandoc_char(7))
     ensures a_glyph { Shows plain (man_page (codes "a\\(emb\n")) (man_rows (codes "       a--b\n")) [] }
-    // a glyph without a spelling (mandoc_char(7))
     ensures a_glyph_without_a_spelling { Shows plain (man_page (codes "a \\(dg\n")) (man_rows (codes "       a <?>\n"))
         (utf8 (codes "mandoc: x.1:3:3: WARNING: unknown character, using <?>: †\n")) }
-    // a glyph that there is not (mandoc_char(7))
     ensures a_glyph_that_there_is_not { Shows plain (man_page (codes "a \\[no-such]\n")) (man_rows (codes "       a <?>\n"))
         (codes "mandoc: x.1:3:3: WARNING: unknown character, using <?>: no-such\n") }
 {}
 
 /// Escapes.
 pub fn escapes_pages_2()
-    // a code point (mandoc_char(7), \[uXXXX])
     ensures a_code_point { Shows plain (man_page (codes "\\[u4E00]\n")) (man_rows (codes "       <?>\n"))
         (utf8 (codes "mandoc: x.1:3:1: WARNING: unknown character, using <?>: 一\n")) }
-    // characters by escapes (roff(7), Escape sequences)
     ensures characters_by_escapes { Shows plain (man_page (codes "\\e\\\\\\-\\.\\'\\`\n")) (man_rows (codes "       \\\\-.'`\n")) [] }
-    // blanks where no row is broken (mandoc_char(7))
     ensures blanks_where_no_row_is_broken { Shows plain (man_page (codes "a\\ b\\~c\\0d\n")) (man_rows (codes "       a b c d\n")) [] }
-    // escapes that print nothing (roff(7), Escape sequences)
     ensures escapes_that_print_nothing { Shows plain (man_page (codes "a\\&b\\|c\\s+1d\\s(12e\\v'1'f\n")) (man_rows (codes "       abcdef\n")) [] }
-    // an undefined escape (roff(7), Escape sequences)
     ensures an_undefined_escape { Shows plain (man_page (codes "ab \\qc\n")) (man_rows (codes "       ab qc\n"))
         (codes "mandoc: x.1:3:4: WARNING: undefined escape, printing literally: \\q\n") }
-    // an undefined escape of another character (roff(7), Escape sequences)
     ensures an_undefined_escape_of_another_character { Shows plain (man_page (utf8 (codes "\\é\n"))) (man_rows (codes "       e\n"))
         (utf8 (codes "mandoc: x.1:3:1: WARNING: undefined escape, printing literally: \\é\n")) }
-    // an escape without its end (roff(7), Escape sequences)
     ensures an_escape_without_its_end { Shows plain (man_page (codes "a \\[b c\n")) (man_rows (codes "       a\n"))
         (codes "mandoc: x.1:3:3: WARNING: invalid escape sequence: \\[b c\n") }
-    // an escape that is not supported (roff(7), \D)
     ensures an_escape_that_is_not_supported { Shows plain (man_page (codes "a \\D'l 1 0' x\n")) (man_rows (codes "       a x\n"))
         (codes "mandoc: x.1:3:3: UNSUPP: unsupported escape sequence: \\D\n") }
-    // blanks by an expression (roff(7), \h)
     ensures blanks_by_an_expression { Shows plain (man_page (codes "a \\h'2n'x\n")) (man_rows (codes "       a   x\n")) [] }
-    // a word's escapes come before its characters (roff(7), Escape sequences)
     ensures a_word_s_escapes_come_before_its_characters { Shows plain (man_page (codes "\\(zz\\q\n")) (man_rows (codes "       <?>q\n"))
         (codes "mandoc: x.1:3:1: WARNING: undefined escape, printing literally: \\q\nmandoc: x.1:3:1: WARNING: unknown character, using <?>: zz\n") }
-    // a tab in a word, reported once (roff(7), \t)
     ensures a_tab_in_a_word_reported_once { Shows plain (man_page (codes "a\\tb\\tc\n")) (man_rows (codes "       a b c\n"))
         (codes "mandoc: x.1:3:1: WARNING: tab in filled text\n") }
-    // a pair of quotes as a delimiter in a quoted argument (roff(7), \h)
-    ensures a_pair_of_quotes_as_a_delimiter_in_a_quoted { Shows plain (man_page (codes ".B \"a\\h\"\"2n\"\"b\"\"c\"\n"))
+    ensures a_pair_of_quotes_as_a_delimiter_in_a_quoted_argument { Shows plain (man_page (codes ".B \"a\\h\"\"2n\"\"b\"\"c\"\n"))
         (man_rows (codes "       " ++ bold (codes "a") ++ codes "  " ++ bold (codes "b\"c") ++ codes "\n")) [] }
 {}
 
 /// Escapes.
 pub fn escapes_pages_3()
-    // a pair of quotes as a font's name (roff(7), \f)
     ensures a_pair_of_quotes_as_a_font_s_name { Shows plain (man_page (codes ".B \"\\f\"\"x\"\n"))
         (man_rows (codes "       " ++ bold (codes "x") ++ codes "\n")) (codes "mandoc: x.1:3:5: WARNING: unknown font, skipping request: \"\n") }
-    // a backslash as a delimiter begins an escape wherever it comes again: the argument has no end (roff(7), Escape sequences)
-    ensures a_backslash_as_a_delimiter_begins_an_escape { Shows plain (man_page (codes "a\\B\\x\\y\n")) (man_rows (codes "       a\n"))
-        (codes "mandoc: x.1:3:1: WARNING: invalid escape sequence: \\B\\x\\y\n") }
-    // a word that goes on in the next line, with a blank in it where no row is broken (roff(7), \c and \ )
-    ensures a_word_that_goes_on_in_the_next_line_with_a_blank { Shows plain
+    ensures a_backslash_as_a_delimiter_begins_an_escape_wherever_it_comes_again { Shows plain (man_page (codes "a\\B\\x\\y\n"))
+        (man_rows (codes "       a\n")) (codes "mandoc: x.1:3:1: WARNING: invalid escape sequence: \\B\\x\\y\n") }
+    ensures a_word_that_goes_on_in_the_next_line_with_a_blank_in_it_where_no_row { Shows plain
         (man_page (codes "aaaaaaaaaaaaaaaaaaaaaaaaaaaaaaaaaaaaaaaaaaaaaaaaaaaaaaaaaaaa b\\ c\\c\ndddddddddddd\n"))
         (man_rows (codes "       aaaaaaaaaaaaaaaaaaaaaaaaaaaaaaaaaaaaaaaaaaaaaaaaaaaaaaaaaaaa\n       b cdddddddddddd\n")) [] }
-    // a glyph by its name in quotes (roff(7), \C)
     ensures a_glyph_by_its_name_in_quotes { Shows plain (man_page (codes "\\C'em'a\n")) (man_rows (codes "       --a\n")) [] }
-    // escapes of one letter that print nothing (roff(7), Escape sequences)
     ensures escapes_of_one_letter_that_print_nothing { Shows plain (man_page (codes "a\\)b\\^c\\%d\\/e\\,f\\:g\na\\ab\\uc\\dd\\re\\zf\n"))
         (man_rows (codes "       abcdefg abcdef\n")) [] }
-    // escapes with a name that print nothing (roff(7), \F, \k, \M and \m)
     ensures escapes_with_a_name_that_print_nothing { Shows plain (man_page (codes "a\\m[red]b\\M(xxc\\kxd\\F[y]e\n"))
         (man_rows (codes "       abcde\n")) [] }
-    // escapes with a quoted argument that are not supported (roff(7), Escape sequences)
-    ensures escapes_with_a_quoted_argument_that_are_not { Shows plain
+    ensures escapes_with_a_quoted_argument_that_are_not_supported { Shows plain
         (man_page (codes "a\\b'x'\nb\\o'xy'\nc\\l'1i'\nd\\L'1i'\ne\\N'65'\nf\\A'x'\ng\\H'1'\nh\\S'1'\ni\\R'a 1'\nj\\Z'x'\nk\\X'x'\nl\\B'x'\n"))
         (man_rows (codes "       a b c d e f g h i j k l\n"))
         (codes "mandoc: x.1:3:1: UNSUPP: unsupported escape sequence: \\b\nmandoc: x.1:4:1: UNSUPP: unsupported escape sequence: \\o\n" ++
@@ -221,8 +165,7 @@ pub fn escapes_pages_3()
         codes "mandoc: x.1:9:1: UNSUPP: unsupported escape sequence: \\H\nmandoc: x.1:10:1: UNSUPP: unsupported escape sequence: \\S\n" ++
         codes "mandoc: x.1:11:1: UNSUPP: unsupported escape sequence: \\R\nmandoc: x.1:12:1: UNSUPP: unsupported escape sequence: \\Z\n" ++
         codes "mandoc: x.1:13:1: UNSUPP: unsupported escape sequence: \\X\nmandoc: x.1:14:1: UNSUPP: unsupported escape sequence: \\B\n") }
-    // escapes with a name, and one alone, that are not supported (roff(7), Escape sequences)
-    ensures escapes_with_a_name_and_one_alone_that_are_not { Shows plain (man_page (codes "a\\gx\nb\\V(xx\nc\\Y[x]\nd\\p\n"))
+    ensures escapes_with_a_name_and_one_alone_that_are_not_supported { Shows plain (man_page (codes "a\\gx\nb\\V(xx\nc\\Y[x]\nd\\p\n"))
         (man_rows (codes "       a b c d\n"))
         (codes "mandoc: x.1:3:1: UNSUPP: unsupported escape sequence: \\g\nmandoc: x.1:4:1: UNSUPP: unsupported escape sequence: \\V\n" ++
         codes "mandoc: x.1:5:1: UNSUPP: unsupported escape sequence: \\Y\nmandoc: x.1:6:1: UNSUPP: unsupported escape sequence: \\p\n") }

@@ -1,29 +1,25 @@
 -- The macros of man(7) keep the laws of macro sets: proofs, which the set's laws cite. Source: man(7).
-use Rattle.std.proofs.Common.{◌≡◌, ℕ, ◌+◌, ◌*◌, ◌≤◌, Bool, true, false, ◌&&◌, nat_le, List, [], ◌∷◌, ◌++◌, length, drop, refl, arith, inl, inr, length-append, Option, None, Some, option_map, if◌then◌else◌}
-use Rattle.std.specs.List.{list_all}
-use Rattle.page_sets_lines.specs.declared.openers.Closer.TheVariants as closers
-use Rattle.std.specs.Option.{option_or, option_map_or}
-use Rattle.std.specs.Str.{bytes_eq}
-use Rattle.std.proofs.lemmas.Bool.{cases_Bool}
-use Rattle.std.proofs.lemmas.Bool.Decides.{nat_tests}
+use Rattle.std.proofs.Common.{◌≡◌, ℕ, ◌+◌, ◌*◌, ◌≤◌, Bool, true, false, ◌&&◌, List, [], ◌∷◌, ◌++◌, length, drop, refl, arith, Option, None, Some, option_map, if◌then◌else◌}
+use Rattle.page_core_base.specs.Texts.{TakenLine}
 use Rattle.page_core_base.specs.declared.cells.Font.{Font}
 use Rattle.page_core_base.specs.declared.cells.Font.TheVariants as fonts
-use Rattle.page_roff_syntax.specs.declared.quotes.Argument.{Argument}
+use Rattle.page_core_base.specs.declared.note_kinds.NoteKind.{NoteKind}
 use Rattle.page_roff_syntax.specs.Arguments.{has_arguments}
-use Rattle.page_sets_lines.specs.declared.openers.Opener.{Opener}
-use Rattle.page_sets_lines.specs.declared.openers.LineOpener.{LineOpener}
-use Rattle.page_sets_lines.specs.declared.events.Join.{Join}
-use Rattle.page_sets_lines.specs.declared.events.Join.TheVariants.{Apart, Glued}
+use Rattle.page_roff_syntax.specs.declared.quotes.Argument.{Argument}
+use Rattle.page_sets_lines.specs.Lines.{arguments_after, event_at, first_of, line_end, line_start, name_end, name_of, name_place, plain_line, rest_of}
+use Rattle.page_sets_lines.specs.declared.events.Event.{Event}
 use Rattle.page_sets_lines.specs.declared.events.EventKind.{EventKind}
 use Rattle.page_sets_lines.specs.declared.events.EventKind.TheVariants as kinds
-use Rattle.page_sets_lines.specs.declared.events.Event.{Event}
-use Rattle.page_sets_lines.specs.declared.plain_lines.PlainLine.{PlainLine}
-use Rattle.page_roff_syntax.specs.declared.requests.LayoutRequest.{LayoutRequest}
-use Rattle.page_core_base.specs.Texts.{TakenLine}
-use Rattle.page_sets_lines.specs.laws.Sets.{IsPart, IsArgument, IsArgumentIfGiven, OpensSlices, ClosesSlices, LeavesSlices, HasSlices, AreSlices, AreInOrder}
-use Rattle.page_sets_lines.specs.Lines.{name_end, name_of, name_place, is_nameless, arguments_after, first_of, line_end, plain_line, layout_request, plain_events, event_at}
-use Rattle.page_sets_lines.proofs.ArgumentLaws.{ArgumentsFrom, all_after, earlier, few_after}
-use Rattle.page_sets_lines.proofs.LawLemmas.{nothing_part, rest_part, end_within, name_part, first_slice_after, first_text_after, second_text_after, request_slices, line_slices, AreSlices-append, HasNoWord, order_after, order_before, line_order, named_bytes}
+use Rattle.page_sets_lines.specs.declared.events.Join.{Join}
+use Rattle.page_sets_lines.specs.declared.events.Join.TheVariants.{Apart, Glued}
+use Rattle.page_sets_lines.specs.declared.openers.Closer.TheVariants as closers
+use Rattle.page_sets_lines.specs.declared.openers.LineOpener.{LineOpener}
+use Rattle.page_sets_lines.specs.declared.openers.Opener.{Opener}
+use Rattle.page_sets_lines.specs.laws.Sets.{ClosesSlices, HasSlices, IsArgument, IsArgumentIfGiven, LeavesSlices, OpensSlices}
+use Rattle.page_sets_lines.proofs.EventLemmas.{AllSit, AnyAt, AnyAtIfGiven, Sits, open_at}
+use Rattle.page_sets_lines.proofs.LawLemmas.{is_word, end_within, first_slice_after, first_text_after, name_part, nothing_part, request_slices, rest_part, second_text_after}
+use Rattle.page_sets_lines.proofs.PrintLemmas.{Prints, both, either, first_taken, more_events, no_event, own_alone, own_first, then_own, word_first, word_passed}
+use Rattle.page_sets_mdoc_words.proofs.WordPrintLemmas.{marked_after}
 use Rattle.page_sets.specs.declared.man_rows.Opens.{Opens}
 use Rattle.page_sets.specs.declared.man_rows.Opens.TheVariants as opens
 use Rattle.page_sets.specs.declared.man_rows.Closes.{Closes}
@@ -41,38 +37,15 @@ use Rattle.page_sets.specs.declared.man_rows.Words.TheVariants as words
 use Rattle.page_sets.specs.declared.man_rows.Last.{Last}
 use Rattle.page_sets.specs.declared.man_rows.Last.TheVariants as lasts
 use Rattle.page_sets.specs.declared.man_rows.ManRow.{ManRow}
-use Rattle.page_sets.specs.declared.man_gives.Quote.{Quote}
-use Rattle.page_core_base.specs.Messages.{row_in}
-use Rattle.page_core_base.specs.declared.places.Place.{Place}
-use Rattle.page_sets.specs.Man.{quiet, table, macro_row, request_row, row_of, opener, closer, leaf, effect_kind, line_scope, one_word, plain_words, alternating_words, option_words, section_words, reference_words, words_events, has_words, quote_at, missing_quote, quote_events, kind_events, last_events, macro_events, lone_events, row_events, named_events, control_events, man_events}
+use Rattle.page_sets.specs.Man.{alternating_words, argument_word, closer, effect_kind, has_words, kind_events, last_events, leaf, line_scope, lone_events, macro_events, man_events, missing_quote, named_events, one_word, opener, option_words, plain_words, quote_at, quote_events, reference_words, refused_events, row_events, row_of, section_words, words_events}
+use Rattle.page_sets.specs.machine.LineLaws.{HasOwnSlices, HoldsAt, IsLawful, line_lawful, slices_hold}
 
 -- ---- slices
-
-break_slices : (line : List ℕ) (place : Place) (breaks : Bool) → AreSlices line (if breaks then event_at place (kinds.Close closers.Line) ∷ [] else [])
-break_slices line place true = (tt, tt)
-break_slices line place false = tt
-
-quote_slices : (line : List ℕ) (number : ℕ) (quote : Option Quote) → AreSlices line (quote_events number quote)
-quote_slices line number None = tt
-quote_slices line number (Some quote) = (nothing_part line, tt)
-
-scope_slices : (line : List ℕ) (place : Place) (scope : Option LineOpener) → AreSlices line (kind_events place (option_map kinds.LineScope scope))
-scope_slices line place None = tt
-scope_slices line place (Some opener) = (tt, tt)
-
-last_slices : (line : List ℕ) (place : Place) (last : Last) → AreSlices line (last_events place last)
-last_slices line place lasts.Nothing = tt
-last_slices line place _ = (tt, tt)
 
 -- what may be there, and then has slices
 HasSlicesIfGiven : List ℕ → Option (EventKind (List ℕ)) → Type 0
 HasSlicesIfGiven line None = Unit {0}
 HasSlicesIfGiven line (Some kind) = HasSlices line kind
-
-kind_slices : (line : List ℕ) (place : Place) (kind : Option (EventKind (List ℕ))) → HasSlicesIfGiven line kind → AreSlices line (kind_events place kind)
-unfolding HasSlicesIfGiven
-kind_slices line place None h = tt
-kind_slices line place (Some kind) h = (h, tt)
 
 target_slices : (line : List ℕ) (make : Argument (List ℕ) → Opener (List ℕ)) (given : Option (Argument (List ℕ)))
     → ((argument : Argument (List ℕ)) → IsArgument line argument → OpensSlices line (make argument)) → IsArgumentIfGiven line given
@@ -103,414 +76,137 @@ sets_slices line sets.Title start h = rest_part line start h
 sets_slices line sets.Distance start h = first_text_after line start
 sets_slices line _ start h = tt
 
-effect_slices : (line : List ℕ) (effect : Effect) (start : ℕ) → start ≤ length line
-    → HasSlicesIfGiven line (effect_kind effect (drop start line) (arguments_after start line))
-unfolding HasSlicesIfGiven
-effect_slices line effects.Nothing start h = tt
-effect_slices line (effects.Opens scope) start h = opens_slices line scope start
-effect_slices line (effects.Closes scope) start h = closes_slices line scope start
-effect_slices line (effects.Sets change) start h = sets_slices line change start h
+-- ---- a line
 
-one_slices : (line : List ℕ) (number : ℕ) (font : Option Font) (before : Join) (from : ℕ) (arguments : List (Argument (List ℕ)))
-    → ArgumentsFrom line from arguments → AreSlices line (one_word number font before arguments)
-one_slices line number font before from [] h = tt
-one_slices line number font before from (argument ∷ arguments) h = (h.1, tt)
+module _ (line : TakenLine) (IsSo : Event (List ℕ) → Type 0) (start : AnyAt line.text IsSo (line_start line.number)) (at : AnyAt line.text IsSo (name_place line))
+    (sit : AllSit line.text IsSo line.number (arguments_after (name_end line) line.text)) where
+  abbrev all : List (Argument (List ℕ))
+  all = arguments_after (name_end line) line.text
 
-plain_slices : (line : List ℕ) (number from : ℕ) (arguments : List (Argument (List ℕ))) → ArgumentsFrom line from arguments → AreSlices line (plain_words number arguments)
-plain_slices line number from [] h = tt
-plain_slices line number from (argument ∷ arguments) h = (h.1, plain_slices line number (argument.column + length argument.text) arguments h.2)
+  -- one event at the macro
+  alone : (kind : EventKind (List ℕ)) → is_word kind ≡ false → HasSlices line.text kind → Prints IsSo 1 [] (event_at (name_place line) kind ∷ [])
+  alone kind w s = own_alone 1 [] _ w (at kind s) (omega arith)
 
-alternating_slices : (line : List ℕ) (number : ℕ) (font other : Font) (before : Join) (from : ℕ) (arguments : List (Argument (List ℕ)))
-    → ArgumentsFrom line from arguments → AreSlices line (alternating_words number font other before arguments)
-alternating_slices line number font other before from [] h = tt
-alternating_slices line number font other before from (argument ∷ arguments) h = (h.1, alternating_slices line number other font _ _ arguments h.2)
+  ends : (filled : Bool) (words : List (Argument (List ℕ))) → Prints IsSo 1 words (line_end line.number filled ∷ [])
+  ends filled words = own_alone 1 words _ refl (start _ tt) (omega arith)
 
-option_slices : (line : List ℕ) (number from : ℕ) (arguments : List (Argument (List ℕ)))
-    → ArgumentsFrom line from arguments → AreSlices line (option_words number arguments)
-option_slices line number from [] h = tt
-option_slices line number from (key ∷ arguments) h = (h.1, one_slices line number _ _ _ arguments h.2)
+  -- ---- before the words
 
-section_slices : (line : List ℕ) (place : Place) (from : ℕ) (arguments : List (Argument (List ℕ)))
-    → ArgumentsFrom line from arguments → AreSlices line (section_words place arguments)
-section_slices line place from [] h = tt
-section_slices line place from (section ∷ arguments) h = (tt, (h.1, (tt, one_slices line place.line _ _ _ arguments h.2)))
+  break_prints : (breaks : Bool) → Prints IsSo 1 [] (if breaks then event_at (name_place line) (kinds.Close closers.Line) ∷ [] else [])
+  break_prints true = alone _ refl tt
+  break_prints false = no_event 1 []
 
-reference_slices : (line : List ℕ) (place : Place) (from : ℕ) (arguments : List (Argument (List ℕ)))
-    → ArgumentsFrom line from arguments → AreSlices line (reference_words place arguments)
-reference_slices line place from [] h = tt
-reference_slices line place from (name ∷ arguments) h = (h.1, section_slices line place _ arguments h.2)
+  quote_prints : (begins_body : Bool) (column : Option ℕ) → AnyAtIfGiven line.text IsSo line.number column → Prints IsSo 1 [] (quote_events line.number (quote_at begins_body column))
+  quote_prints begins_body None h = no_event 1 []
+  quote_prints begins_body (Some column) h = own_alone 1 [] _ refl (h _ (nothing_part line.text)) (omega arith)
 
-further_slices : (line : List ℕ) (number from : ℕ) (arguments : List (Argument (List ℕ)))
-    → ArgumentsFrom line from arguments → AreSlices line (plain_words number (drop 1 arguments))
-further_slices line number from [] h = tt
-further_slices line number from (first ∷ arguments) h = plain_slices line number (first.column + length first.text) arguments h.2
+  quotes_print : (quotes : Quotes) → Prints IsSo 1 [] (quote_events line.number (missing_quote quotes all))
+  quotes_print Printed = no_event 1 []
+  quotes_print (After printed) = quote_prints false _ (open_at line.text IsSo line.number printed all sit)
+  quotes_print (BodyAfter printed) = quote_prints true _ (open_at line.text IsSo line.number printed all sit)
 
-words_slices : (line : List ℕ) (place : Place) (these : Words) (from : ℕ) (arguments : List (Argument (List ℕ)))
-    → ArgumentsFrom line from arguments → AreSlices line (words_events place these arguments)
-words_slices line place words.Nothing from arguments h = tt
-words_slices line place words.Plain from arguments h = plain_slices line place.line from arguments h
-words_slices line place (words.Alternating font other) from arguments h = alternating_slices line place.line font other Apart from arguments h
-words_slices line place words.Option from arguments h = option_slices line place.line from arguments h
-words_slices line place words.Reference from arguments h = reference_slices line place from arguments h
-words_slices line place words.Further from arguments h = further_slices line place.line from arguments h
+  open_prints : (given : Option (Opener (List ℕ))) → HasSlicesIfGiven line.text (option_map kinds.Open given) → Prints IsSo 1 [] (kind_events (name_place line) (option_map kinds.Open given))
+  unfolding HasSlicesIfGiven
+  open_prints None h = no_event 1 []
+  open_prints (Some opener) h = alone _ refl h
 
-macro_slices : (line : List ℕ) (place : Place) (start : ℕ) (row : ManRow) → start ≤ length line
-    → AreSlices line (macro_events place row (drop start line) (arguments_after start line))
-macro_slices line place start row within =
-    let arguments = arguments_after start line in
-    AreSlices-append line _ _ (break_slices line place row.breaks)
-    (AreSlices-append line _ _ (quote_slices line place.line (missing_quote row.quotes arguments))
-    (AreSlices-append line _ _ (kind_slices line place _ (effect_slices line row.effect start within))
-    (AreSlices-append line _ _ (scope_slices line place (line_scope row.effect))
-    (AreSlices-append line _ _ (words_slices line place row.words (start + 1) arguments (all_after line start))
-    (AreSlices-append line _ _ (last_slices line place row.last) (tt, tt))))))
+  effect_prints : (effect : Effect) → Prints IsSo 1 [] (kind_events (name_place line) (effect_kind effect (rest_of line) all))
+  effect_prints effects.Nothing = no_event 1 []
+  effect_prints (effects.Opens scope) = open_prints (opener scope all) (opens_slices line.text scope (name_end line))
+  effect_prints (effects.Closes scope) = alone _ refl (closes_slices line.text scope (name_end line))
+  effect_prints (effects.Sets change) = alone _ refl (sets_slices line.text change (name_end line) (end_within line))
 
-lone_slices : (line : List ℕ) (alone : Alone) (place : Place) (name : List ℕ) (events : List (Event (List ℕ))) → IsPart line name
-    → AreSlices line events → AreSlices line (lone_events alone place name events)
-lone_slices line Same place name events n h = h
-lone_slices line Empty place name events n h = (n, (tt, tt))
-lone_slices line (Scope opener) place name events n h = (tt, (tt, tt))
+  scope_prints : (scope : Option LineOpener) → Prints IsSo 1 [] (kind_events (name_place line) (option_map kinds.LineScope scope))
+  scope_prints None = no_event 1 []
+  scope_prints (Some opener) = alone _ refl tt
 
-row_slices : (line : List ℕ) (place : Place) (start : ℕ) (name : List ℕ) (row : ManRow) → start ≤ length line → IsPart line name
-    → AreSlices line (row_events place name (drop start line) (arguments_after start line) row)
-row_slices line place start name row within n =
-    let m = macro_slices line place start row within in
-    elim (cases_Bool (has_arguments (drop start line))) [
-      | inl t ↦ rw t (rw t at m)
-      | inr t ↦ rw t (lone_slices line row.alone place name _ n (rw t at m))
-    ]
+  -- ---- the words, and what comes after them
 
-named_slices : (line : TakenLine) (row : Option ManRow) → AreSlices line.text (named_events line row)
-named_slices line None = (name_part line, (tt, tt))
-named_slices line (Some row) =
-    row_slices line.text (name_place line) (name_end line) (name_of line) row (end_within line) (name_part line)
+  first_prints : (font : Option Font) (before : Join) (word : Argument (List ℕ)) (words : List (Argument (List ℕ))) (events : List (Event (List ℕ))) → Sits line.text IsSo line.number word
+      → Prints IsSo 0 words events → Prints IsSo 0 (word ∷ words) (argument_word line.number font before word ∷ events)
+  first_prints font before word words events h p = word_first 0 word words _ events (h.first _ refl h.slice) (first_taken word words) p
 
-control_slices : (line : TakenLine) → AreSlices line.text (control_events line)
-control_slices line =
-    elim (cases_Bool (is_nameless line)) [
-      | inl t ↦ rw t (tt, tt)
-      | inr t ↦ rw t (named_slices line (row_of (name_of line)))
-    ]
+  one_prints : (font : Option Font) (before : Join) (words : List (Argument (List ℕ))) → AllSit line.text IsSo line.number words → Prints IsSo 0 words (one_word line.number font before words)
+  one_prints font before [] h = no_event 0 []
+  one_prints font before (word ∷ words) h = first_prints font before word words [] h.0 (no_event 0 words)
 
-form_slices : (line : TakenLine) (plain : Option PlainLine) → AreSlices line.text (option_map_or (plain_events line.number line.text) plain (control_events line))
-form_slices line None = control_slices line
-form_slices line (Some plain) = (line_slices plain line.text, (tt, tt))
+  plain_prints : (words : List (Argument (List ℕ))) → AllSit line.text IsSo line.number words → Prints IsSo 0 words (plain_words line.number words)
+  plain_prints [] h = no_event 0 []
+  plain_prints (word ∷ words) h = first_prints None Apart word words _ h.0 (plain_prints words h.1)
 
-pub man_slices : (line : TakenLine) → AreSlices line.text (man_events line)
+  alternating_prints : (font other : Font) (before : Join) (words : List (Argument (List ℕ))) → AllSit line.text IsSo line.number words
+      → Prints IsSo 0 words (alternating_words line.number font other before words)
+  alternating_prints font other before [] h = no_event 0 []
+  alternating_prints font other before (word ∷ words) h = first_prints (Some font) before word words _ h.0 (alternating_prints other font Glued words h.1)
+
+  option_prints : (words : List (Argument (List ℕ))) → AllSit line.text IsSo line.number words → Prints IsSo 0 words (option_words line.number words)
+  option_prints [] h = no_event 0 []
+  option_prints (key ∷ words) h = first_prints (Some fonts.B) Apart key words _ h.0 (one_prints (Some fonts.I) Apart words h.1)
+
+  section_prints : (words : List (Argument (List ℕ))) → AllSit line.text IsSo line.number words → Prints IsSo 1 words (section_words (name_place line) words)
+  section_prints [] h = no_event 1 []
+  section_prints (section ∷ words) h =
+      own_first 0 1 (section ∷ words) _ _ refl (at _ tt) (omega arith)
+      (marked_after line.text IsSo 0 (argument_word line.number None Apart section) _ section words _ (h.0.first _ refl h.0.slice, first_taken section words) refl (at _ tt)
+      (one_prints None Glued words h.1))
+
+  -- a name makes room for the second mark of its section
+  reference_prints : (words : List (Argument (List ℕ))) → AllSit line.text IsSo line.number words → Prints IsSo 0 words (reference_words (name_place line) words)
+  reference_prints [] h = no_event 0 []
+  reference_prints (name ∷ words) h =
+      let p = section_prints words h.1 in
+      let few = p.few in
+      record { each = (h.0.first _ refl h.0.slice, p.each); order = (words, first_taken name words, p.order); few = omega (arith, few) }
+
+  further_prints : (words : List (Argument (List ℕ))) → AllSit line.text IsSo line.number words → Prints IsSo 0 words (plain_words line.number (drop 1 words))
+  further_prints [] h = no_event 0 []
+  further_prints (first ∷ words) h = word_passed 0 first words _ (more_events 0 2 words _ (omega arith) (plain_prints words h.1))
+
+  words_print : (these : Words) → Prints IsSo 0 all (words_events (name_place line) these all)
+  words_print words.Nothing = no_event 0 all
+  words_print words.Plain = plain_prints all sit
+  words_print (words.Alternating font other) = alternating_prints font other Apart all sit
+  words_print words.Option = option_prints all sit
+  words_print words.Reference = reference_prints all sit
+  words_print words.Further = further_prints all sit
+
+  last_prints : (last : Last) → Prints IsSo 1 [] (last_events (name_place line) last)
+  last_prints lasts.Nothing = no_event 1 []
+  last_prints lasts.FontEnds = alone _ refl tt
+  last_prints (lasts.Mark text) = alone _ refl tt
+
+  -- ---- a macro
+
+  macro_prints : (row : ManRow) → Prints IsSo 6 all (macro_events (name_place line) row (rest_of line) all)
+  macro_prints row =
+      both 1 5 [] all _ _ (break_prints row.breaks)
+      (both 1 4 [] all _ _ (quotes_print row.quotes)
+      (both 1 3 [] all _ _ (effect_prints row.effect)
+      (both 1 2 [] all _ _ (scope_prints (line_scope row.effect))
+      (then_own 0 2 all _ _ (words_print row.words)
+      (both 1 1 [] [] _ _ (last_prints row.last) (ends (has_words row.words && has_arguments (rest_of line)) []))))))
+
+  refused_prints : (kind : NoteKind) → Prints IsSo 6 all (refused_events kind (name_place line) (name_of line))
+  refused_prints kind = own_first 1 6 all _ _ refl (at _ (name_part line)) (omega arith) (ends false all)
+
+  lone_prints : (alone : Alone) (events : List (Event (List ℕ))) → Prints IsSo 6 all events → Prints IsSo 6 all (lone_events alone (name_place line) (name_of line) events)
+  lone_prints Same events p = p
+  lone_prints Empty events p = refused_prints _
+  lone_prints (Scope opener) events p = own_first 1 6 all _ _ refl (at _ tt) (omega arith) (ends false all)
+
+  named_prints : (row : Option ManRow) → Prints IsSo 6 all (named_events line row)
+  named_prints None = refused_prints _
+  named_prints (Some row) =
+      let p = macro_prints row in either 6 (has_arguments (rest_of line)) all _ _ p (lone_prints row.alone _ p)
+
+pub man_lawful : (IsSo : Event (List ℕ) → Type 0) (line : TakenLine) → HoldsAt IsSo line → IsLawful IsSo line (man_events line)
 unfolding man_events
-man_slices line = form_slices line (plain_line line.form line.text)
+man_lawful IsSo line h =
+    line_lawful IsSo line false (named_events line (row_of (name_of line))) (plain_line line.form line.text) h
+    (λ named. named_prints line IsSo h.start (h.name named) h.arguments (row_of (name_of line)))
 
--- ---- order
-
-break_no_word : (place : Place) (breaks : Bool) → HasNoWord (if breaks then event_at place (kinds.Close closers.Line) ∷ [] else [])
-break_no_word place true = (refl, tt)
-break_no_word place false = tt
-
-quote_no_word : (number : ℕ) (quote : Option Quote) → HasNoWord (quote_events number quote)
-quote_no_word number None = tt
-quote_no_word number (Some quote) = (refl, tt)
-
-scope_no_word : (place : Place) (scope : Option LineOpener) → HasNoWord (kind_events place (option_map kinds.LineScope scope))
-scope_no_word place None = tt
-scope_no_word place (Some opener) = (refl, tt)
-
-open_no_word : (place : Place) (given : Option (Opener (List ℕ))) → HasNoWord (kind_events place (option_map kinds.Open given))
-open_no_word place None = tt
-open_no_word place (Some opener) = (refl, tt)
-
-effect_no_word : (place : Place) (effect : Effect) (rest : List ℕ) (arguments : List (Argument (List ℕ)))
-    → HasNoWord (kind_events place (effect_kind effect rest arguments))
-effect_no_word place effects.Nothing rest arguments = tt
-effect_no_word place (effects.Opens scope) rest arguments = open_no_word place (opener scope arguments)
-effect_no_word place _ rest arguments = (refl, tt)
-
-last_no_word : (place : Place) (last : Last) (filled : Bool) → HasNoWord (last_events place last ++ line_end place.line filled ∷ [])
-last_no_word place lasts.Nothing filled = (refl, tt)
-last_no_word place _ filled = (refl, (refl, tt))
-
-one_order : (line : List ℕ) (number : ℕ) (font : Option Font) (before : Join) (from : ℕ) (arguments : List (Argument (List ℕ)))
-    → ArgumentsFrom line from arguments → AreInOrder from (one_word number font before arguments)
-one_order line number font before from [] h = tt
-one_order line number font before from (argument ∷ arguments) h = (h.0, tt)
-
-plain_order : (line : List ℕ) (number from : ℕ) (arguments : List (Argument (List ℕ))) → ArgumentsFrom line from arguments → AreInOrder from (plain_words number arguments)
-plain_order line number from [] h = tt
-plain_order line number from (argument ∷ arguments) h = (h.0, plain_order line number (argument.column + length argument.text) arguments h.2)
-
-alternating_order : (line : List ℕ) (number : ℕ) (font other : Font) (before : Join) (from : ℕ) (arguments : List (Argument (List ℕ)))
-    → ArgumentsFrom line from arguments → AreInOrder from (alternating_words number font other before arguments)
-alternating_order line number font other before from [] h = tt
-alternating_order line number font other before from (argument ∷ arguments) h = (h.0, alternating_order line number other font _ _ arguments h.2)
-
-option_order : (line : List ℕ) (number from : ℕ) (arguments : List (Argument (List ℕ)))
-    → ArgumentsFrom line from arguments → AreInOrder from (option_words number arguments)
-option_order line number from [] h = tt
-option_order line number from (key ∷ arguments) h = (h.0, one_order line number _ _ _ arguments h.2)
-
-section_order : (line : List ℕ) (place : Place) (from : ℕ) (arguments : List (Argument (List ℕ)))
-    → ArgumentsFrom line from arguments → AreInOrder from (section_words place arguments)
-section_order line place from [] h = tt
-section_order line place from (section ∷ arguments) h = (tt, (h.0, (tt, one_order line place.line _ _ _ arguments h.2)))
-
-reference_order : (line : List ℕ) (place : Place) (from : ℕ) (arguments : List (Argument (List ℕ)))
-    → ArgumentsFrom line from arguments → AreInOrder from (reference_words place arguments)
-reference_order line place from [] h = tt
-reference_order line place from (name ∷ arguments) h = (h.0, section_order line place _ arguments h.2)
-
-further_order : (line : List ℕ) (number from : ℕ) (arguments : List (Argument (List ℕ)))
-    → ArgumentsFrom line from arguments → AreInOrder from (plain_words number (drop 1 arguments))
-further_order line number from [] h = tt
-further_order line number from (first ∷ arguments) h =
-    plain_order line number from arguments (earlier line from (first.column + length first.text) arguments (omega (arith, h.0)) h.2)
-
-words_order : (line : List ℕ) (place : Place) (these : Words) (from : ℕ) (arguments : List (Argument (List ℕ)))
-    → ArgumentsFrom line from arguments → AreInOrder from (words_events place these arguments)
-words_order line place words.Nothing from arguments h = tt
-words_order line place words.Plain from arguments h = plain_order line place.line from arguments h
-words_order line place (words.Alternating font other) from arguments h = alternating_order line place.line font other Apart from arguments h
-words_order line place words.Option from arguments h = option_order line place.line from arguments h
-words_order line place words.Reference from arguments h = reference_order line place from arguments h
-words_order line place words.Further from arguments h = further_order line place.line from arguments h
-
-macro_order : (line : List ℕ) (place : Place) (start : ℕ) (row : ManRow) → AreInOrder 0 (macro_events place row (drop start line) (arguments_after start line))
-macro_order line place start row =
-    let arguments = arguments_after start line in
-    order_after 0 _ _ (break_no_word place row.breaks)
-    (order_after 0 _ _ (quote_no_word place.line (missing_quote row.quotes arguments))
-    (order_after 0 _ _ (effect_no_word place row.effect (drop start line) arguments)
-    (order_after 0 _ _ (scope_no_word place (line_scope row.effect))
-    (order_before 0 _ _ (words_order line place row.words 0 arguments (earlier line 0 (start + 1) arguments (omega arith) (all_after line start)))
-    (last_no_word place row.last (has_words row.words && has_arguments (drop start line)))))))
-
-lone_order : (alone : Alone) (place : Place) (name : List ℕ) (events : List (Event (List ℕ))) → AreInOrder 0 events → AreInOrder 0 (lone_events alone place name events)
-lone_order Same place name events h = h
-lone_order _ place name events h = (tt, (tt, tt))
-
-row_order : (line : List ℕ) (place : Place) (start : ℕ) (name : List ℕ) (row : ManRow)
-    → AreInOrder 0 (row_events place name (drop start line) (arguments_after start line) row)
-row_order line place start name row =
-    let m = macro_order line place start row in
-    elim (cases_Bool (has_arguments (drop start line))) [
-      | inl t ↦ rw t (rw t at m)
-      | inr t ↦ rw t (lone_order row.alone place name _ (rw t at m))
-    ]
-
-named_order : (line : TakenLine) (row : Option ManRow) → AreInOrder 0 (named_events line row)
-named_order line None = (tt, (tt, tt))
-named_order line (Some row) = row_order line.text (name_place line) (name_end line) (name_of line) row
-
-control_order : (line : TakenLine) → AreInOrder 0 (control_events line)
-control_order line =
-    elim (cases_Bool (is_nameless line)) [
-      | inl t ↦ rw t (tt, tt)
-      | inr t ↦ rw t (named_order line (row_of (name_of line)))
-    ]
-
-form_order : (line : TakenLine) (plain : Option PlainLine) → AreInOrder 0 (option_map_or (plain_events line.number line.text) plain (control_events line))
-form_order line None = control_order line
-form_order line (Some plain) = (line_order plain line.text, (tt, tt))
-
-pub man_in_order : (line : TakenLine) → AreInOrder 0 (man_events line)
-unfolding man_events
-man_in_order line = form_order line (plain_line line.form line.text)
-
--- ---- few
-
--- how many events a row gives, beside its words and the line's end
-break_weight : Bool → ℕ
-break_weight true = 1
-break_weight false = 0
-
-quotes_weight : Quotes → ℕ
-quotes_weight Printed = 0
-quotes_weight _ = 1
-
-effect_weight : Effect → ℕ
-effect_weight effects.Nothing = 0
-effect_weight _ = 1
-
-scope_weight : Option LineOpener → ℕ
-scope_weight None = 0
-scope_weight (Some opener) = 1
-
-marks_weight : Words → ℕ
-marks_weight words.Reference = 2
-marks_weight _ = 0
-
-last_weight : Last → ℕ
-last_weight lasts.Nothing = 0
-last_weight _ = 1
-
-weight : ManRow → ℕ
-weight row =
-    break_weight row.breaks + (quotes_weight row.quotes + (effect_weight row.effect
-    + (scope_weight (line_scope row.effect) + (marks_weight row.words + last_weight row.last))))
-
-few_break : (place : Place) (breaks : Bool) → length (if breaks then event_at place (kinds.Close closers.Line) ∷ [] else []) ≤ break_weight breaks
-unfolding break_weight
-few_break place true = omega arith
-few_break place false = omega arith
-
-few_quote_at : (number : ℕ) (begins_body : Bool) (column : Option ℕ) → length (quote_events number (quote_at begins_body column)) ≤ 1
-few_quote_at number begins_body None = omega arith
-few_quote_at number begins_body (Some column) = omega arith
-
-few_quote : (number : ℕ) (quotes : Quotes) (arguments : List (Argument (List ℕ))) → length (quote_events number (missing_quote quotes arguments)) ≤ quotes_weight quotes
-unfolding quotes_weight
-few_quote number Printed arguments = omega arith
-few_quote number (After printed) arguments = few_quote_at number false _
-few_quote number (BodyAfter printed) arguments = few_quote_at number true _
-
-few_kind : (place : Place) (kind : Option (EventKind (List ℕ))) → length (kind_events place kind) ≤ 1
-few_kind place None = omega arith
-few_kind place (Some kind) = omega arith
-
-few_effect : (place : Place) (effect : Effect) (rest : List ℕ) (arguments : List (Argument (List ℕ)))
-    → length (kind_events place (effect_kind effect rest arguments)) ≤ effect_weight effect
-unfolding effect_weight
-few_effect place (effects.Opens scope) rest arguments = few_kind place _
-few_effect place _ rest arguments = omega arith
-
-few_scope : (place : Place) (scope : Option LineOpener) → length (kind_events place (option_map kinds.LineScope scope)) ≤ scope_weight scope
-unfolding scope_weight
-few_scope place None = omega arith
-few_scope place (Some opener) = omega arith
-
-few_last : (place : Place) (last : Last) → length (last_events place last) ≤ last_weight last
-unfolding last_weight
-few_last place lasts.Nothing = omega arith
-few_last place _ = omega arith
-
-few_one : (number : ℕ) (font : Option Font) (before : Join) (arguments : List (Argument (List ℕ))) → length (one_word number font before arguments) ≤ length arguments
-few_one number font before [] = omega arith
-few_one number font before (argument ∷ arguments) = omega arith
-
-few_plain : (number : ℕ) (arguments : List (Argument (List ℕ))) → length (plain_words number arguments) ≤ length arguments
-few_plain number [] = omega arith
-few_plain number (argument ∷ arguments) = let f = few_plain number arguments in omega (arith, f)
-
-few_alternating : (number : ℕ) (font other : Font) (before : Join) (arguments : List (Argument (List ℕ)))
-    → length (alternating_words number font other before arguments) ≤ length arguments
-few_alternating number font other before [] = omega arith
-few_alternating number font other before (argument ∷ arguments) = let f = few_alternating number other font Glued arguments in omega (arith, f)
-
-few_option : (number : ℕ) (arguments : List (Argument (List ℕ))) → length (option_words number arguments) ≤ length arguments
-few_option number [] = omega arith
-few_option number (key ∷ arguments) = let f = few_one number (Some fonts.I) Apart arguments in omega (arith, f)
-
-few_section : (place : Place) (arguments : List (Argument (List ℕ))) → length (section_words place arguments) ≤ 2 + length arguments
-few_section place [] = omega arith
-few_section place (section ∷ arguments) = let f = few_one place.line None Glued arguments in omega (arith, f)
-
-few_reference : (place : Place) (arguments : List (Argument (List ℕ))) → length (reference_words place arguments) ≤ 2 + length arguments
-few_reference place [] = omega arith
-few_reference place (name ∷ arguments) = let f = few_section place arguments in omega (arith, f)
-
-few_further : (number : ℕ) (arguments : List (Argument (List ℕ))) → length (plain_words number (drop 1 arguments)) ≤ length arguments
-few_further number [] = omega arith
-few_further number (first ∷ arguments) = let f = few_plain number arguments in omega (arith, f)
-
-few_words : (place : Place) (these : Words) (arguments : List (Argument (List ℕ)))
-    → length (words_events place these arguments) ≤ marks_weight these + length arguments
-unfolding marks_weight
-few_words place words.Nothing arguments = omega arith
-few_words place words.Plain arguments = let f = few_plain place.line arguments in omega (arith, f)
-few_words place (words.Alternating font other) arguments = let f = few_alternating place.line font other Apart arguments in omega (arith, f)
-few_words place words.Option arguments = let f = few_option place.line arguments in omega (arith, f)
-few_words place words.Reference arguments = let f = few_reference place arguments in omega (arith, f)
-few_words place words.Further arguments = let f = few_further place.line arguments in omega (arith, f)
-
-few_macro : (place : Place) (row : ManRow) (rest : List ℕ) (arguments : List (Argument (List ℕ)))
-    → length (macro_events place row rest arguments) ≤ weight row + length arguments + 1
-unfolding weight
-few_macro place row rest arguments =
-    let a = few_break place row.breaks in
-    let b = few_quote place.line row.quotes arguments in
-    let c = few_effect place row.effect rest arguments in
-    let d = few_scope place (line_scope row.effect) in
-    let e = few_words place row.words arguments in
-    let f = few_last place row.last in
-    simp length-append (omega (arith, a, b, c, d, e, f))
-
--- ---- the rows of the table are light
-
-is_light : ManRow → Bool
-is_light row = nat_le (weight row) 4
-
-abbrev are_light : List (List ℕ × ManRow) → Bool
-are_light rows = list_all (λ (each : List ℕ × ManRow). is_light each.1) rows
-
-light_in : (rows : List (List ℕ × ManRow)) (name : List ℕ) (row : ManRow) → are_light rows ≡ true → row_in rows name ≡ Some row → is_light row ≡ true
-light_in [] name row h e = cc
-light_in (first ∷ rows) name row h e =
-    elim (cases_Bool (is_light first.1)) [
-      | inl s ↦
-          elim (cases_Bool (bytes_eq first.0 name)) [
-            | inl t ↦ let f = rw t at e in let g : first.1 ≡ row = cc in rw (← g) s
-            | inr t ↦ light_in rows name row (rw s at h) (rw t at e)
-          ]
-      | inr s ↦ let f = rw s at h in cc
-    ]
-
-light_either : (one other : Option ManRow) (row : ManRow) → (one ≡ Some row → is_light row ≡ true) → (other ≡ Some row → is_light row ≡ true)
-    → option_or one other ≡ Some row → is_light row ≡ true
-light_either None other row h k e = k e
-light_either (Some found) other row h k e = h e
-
-light_macro : (name : List ℕ) (row : ManRow) → macro_row name ≡ Some row → is_light row ≡ true
-unfolding macro_row is_light weight break_weight quotes_weight effect_weight scope_weight marks_weight last_weight
-light_macro name row e = light_in table name row refl e
-
-light_request : (request : Option LayoutRequest) (row : ManRow) → option_map (λ name. quiet (sets.Request name)) request ≡ Some row → is_light row ≡ true
-unfolding is_light weight break_weight quotes_weight effect_weight scope_weight marks_weight last_weight
-light_request None row e = cc
-light_request (Some name) row e = let g : quiet (sets.Request name) ≡ row = cc in rw (← g) refl
-
-light_row : (name : List ℕ) (row : ManRow) → row_of name ≡ Some row → is_light row ≡ true
-light_row name row e =
-    light_either (macro_row name) (request_row name) row (light_macro name row) (light_request (layout_request name) row) e
-
-light_weight : (row : ManRow) → is_light row ≡ true → weight row ≤ 4
-unfolding is_light
-light_weight row h = grind (arith, nat_tests)
-
-few_lone : (alone : Alone) (place : Place) (name : List ℕ) (events : List (Event (List ℕ))) (n : ℕ) → 2 ≤ n → length events ≤ n
-    → length (lone_events alone place name events) ≤ n
-few_lone Same place name events n t h = h
-few_lone _ place name events n t h = omega arith
-
-few_row : (place : Place) (name rest : List ℕ) (arguments : List (Argument (List ℕ))) (row : ManRow) (n : ℕ) → 2 ≤ n
-    → length (macro_events place row rest arguments) ≤ n → length (row_events place name rest arguments row) ≤ n
-few_row place name rest arguments row n t h =
-    elim (cases_Bool (has_arguments rest)) [
-      | inl s ↦ rw s (rw s at h)
-      | inr s ↦ rw s (few_lone row.alone place name _ n t (rw s at h))
-    ]
-
-few_named : (line : TakenLine) (row : Option ManRow) → is_nameless line ≡ false → row_of (name_of line) ≡ row
-    → length (named_events line row) ≤ 2 * length line.text + 2
-few_named line None h e = omega arith
-few_named line (Some row) h e =
-    let text = line.text in
-    let start = name_end line in
-    let b = named_bytes line h in
-    let w = light_weight row (light_row (name_of line) row e) in
-    let f = few_after text start in
-    let m = few_macro (name_place line) row (drop start text) (arguments_after start text) in
-    few_row (name_place line) (name_of line) (drop start text) (arguments_after start text) row
-    (2 * length text + 2) (omega arith) (omega (arith, b.0, b.1, w, f, m))
-
-few_control : (line : TakenLine) → length (control_events line) ≤ 2 * length line.text + 2
-few_control line =
-    elim (cases_Bool (is_nameless line)) [
-      | inl t ↦ rw t (omega arith)
-      | inr t ↦ rw t (few_named line (row_of (name_of line)) t refl)
-    ]
-
-few_form : (line : TakenLine) (plain : Option PlainLine) → length (option_map_or (plain_events line.number line.text) plain (control_events line)) ≤ 2 * length line.text + 2
-few_form line None = few_control line
-few_form line (Some plain) = omega arith
+pub man_laws : (line : TakenLine) → IsLawful (HasOwnSlices line) line (man_events line)
+man_laws line = man_lawful (HasOwnSlices line) line (slices_hold line)
 
 pub man_few : (line : TakenLine) → length (man_events line) ≤ 2 * length line.text + 2
-unfolding man_events
-man_few line = few_form line (plain_line line.form line.text)
+man_few line = (man_laws line).few

@@ -1,5 +1,5 @@
 -- What contracts of the code say by the definitions, and what is proved of these.
-use Rattle.std.specs.Prelude.{◌≡◌, ℕ, ◌+◌, ◌≤◌, List, length, take, drop, ◌-◌, Option, None, Some, [], ◌∷◌}
+use Rattle.std.specs.Prelude.{◌≡◌, ℕ, ◌+◌, ◌≤◌, Bool, true, false, List, length, take, drop, ◌-◌, Option, None, Some, [], ◌∷◌}
 use Rattle.page_roff_syntax.specs.declared.quotes.Argument.{Argument}
 use Rattle.page_sets_lines.specs.declared.blocks.BlockCloser.{BlockCloser}
 use Rattle.page_sets_lines.specs.declared.blocks.BlockCloser.TheVariants as block_closers
@@ -97,9 +97,19 @@ HasSlices line (kinds.Raw text) = IsPart line text
 HasSlices line (kinds.Note kind detail is_quoted begins_body) = IsPart line detail
 HasSlices line _ = Unit {0}
 
+-- each event is so
+abbrev pub AreAll : (Event (List ℕ) → Type 0) → List (Event (List ℕ)) → Type 0
+AreAll IsSo [] = Unit {0}
+AreAll IsSo (event ∷ events) = IsSo event × AreAll IsSo events
+
 abbrev pub AreSlices : List ℕ → List (Event (List ℕ)) → Type 0
-AreSlices line [] = Unit {0}
-AreSlices line (event ∷ events) = HasSlices line event.kind × AreSlices line events
+AreSlices line events = AreAll (λ event. HasSlices line event.kind) events
+
+-- an event prints an argument, or a text of the macro's own
+abbrev pub prints_text : EventKind (List ℕ) → Bool
+prints_text (kinds.Word word) = true
+prints_text (kinds.Leaf (leaves.Generated word)) = true
+prints_text _ = false
 
 -- the column from which the next word may begin, after this event
 abbrev pub past : ℕ → EventKind (List ℕ) → ℕ
