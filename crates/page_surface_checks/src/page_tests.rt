@@ -1,152 +1,113 @@
 //! Whole pages by hand, from all layers; and what each layer needs of memory.
 
-use crate::checks::{all_messages, check, check_answer, check_counts, check_text, counts_of};
+use crate::checks::{all_messages, check_answer, check_counts, check_text, counts_of};
 use crate::cuts::CutPage;
 use crate::hands::{ByHand, new_roff, new_scopes};
 use crate::lines::{FedPage, cut};
 use crate::sheets::new_filler;
 use crate::sinks::{Kept, Notes};
 use crate::steps::{Step, check_steps};
-use page_core::{Encoding, Fault, Level};
+use page_core::{Encoding, Fault};
 use page_roff::Cutter;
 use page_sets::{Either, MacroSet, Man, Mdoc};
 use std::alloc::Global;
 use std::process::Abort;
 use std::test::Fail;
 
-// A page whose lines are each taken once: its text; how many lines these are; the messages of their cutting; the rows, without header and footer, which
-// the engine writes; the other messages, and the worst level of these.
-struct Case {
-    page: &'static str,
-    lines: u64,
-    cuts: &'static str,
-    rows: &'static str,
-    messages: &'static str,
-    worst: Option<Level>,
-}
+// A page whose lines are each taken once: its text; how many lines these are; the rows, without header and footer, which the engine writes, and then the
+// messages of its cutting and the others.
+type Case = (&'static str, u64, &'static str);
 
 const MAN_PAGES: &[Case] = &[
-    Case {
-        page: ".TH T 1 2020-01-01 S\n.SH A\na\u{1}\\\nb\n",
-        lines: 3,
-        cuts: "mandoc: x.1:3:2: ERROR: skipping bad character: 0x01\n",
-        rows: "A\u{8}A\n       a?b\n",
-        messages: "",
-        worst: None,
-    },
-    Case {
-        page: ".TH T 1 2020-01-01 S\n.SH NAME\nt \\- x\n",
-        lines: 3,
-        cuts: "",
-        rows: "N\u{8}NA\u{8}AM\u{8}ME\u{8}E\n       t - x\n",
-        messages: "",
-        worst: None,
-    },
-    Case {
-        page: ".TH T 1 2020-01-01 S\n.SH A\na\n\nb\n",
-        lines: 5,
-        cuts: "",
-        rows: "A\u{8}A\n       a\n\n       b\n",
-        messages: "mandoc: x.1:4:1: WARNING: blank line in fill mode, using .sp\n",
-        worst: Some(Level::Warning),
-    },
-    Case {
-        page: ".TH T 1 2020-01-01 S\n.SH A\n.ZZ\na\n",
-        lines: 4,
-        cuts: "",
-        rows: "A\u{8}A\n       a\n",
-        messages: "mandoc: x.1:3:2: ERROR: skipping unknown macro: ZZ\n",
-        worst: Some(Level::Error),
-    },
-    Case {
-        page: ".TH T 1 2020-01-01 S\n.SH A\na\n.RS\nb\n",
-        lines: 5,
-        cuts: "",
-        rows: "A\u{8}A\n       a\n              b\n",
-        messages: "mandoc: x.1:5:1: ERROR: appending missing end of block: RS\n",
-        worst: Some(Level::Error),
-    },
-    Case {
-        page: ".TH T 1 2020-01-01 S\n.SH A\na\n.RS\n.B b\n.I c\n.RE\n.TP\nd\ne\n",
-        lines: 10,
-        cuts: "",
-        rows: "A\u{8}A\n       a\n              b\u{8}b _\u{8}c\n\n       d      e\n",
-        messages: "",
-        worst: None,
-    },
-    Case {
-        page: ".TH T 1 2020-01-01 S\n.SH A\naaaaaaaaaaaaaaaaaaaaaaaaaaaaaaaaaaa cccccccccccccccccccccccccccccccccccc\n",
-        lines: 3,
-        cuts: "",
-        rows: "A\u{8}A\n       aaaaaaaaaaaaaaaaaaaaaaaaaaaaaaaaaaa\n       cccccccccccccccccccccccccccccccccccc\n",
-        messages: "",
-        worst: None,
-    },
-    Case {
-        page: ".TH T 1 2020-01-01 S\n.SH A\naaaaaaaaaaaaaaaaaaaaaaaaaaaaaaaaaaaaaaaaaaaaaaaaaaaaaaaaaaaa b\\ c\\c\ndddddddddddd\n",
-        lines: 4,
-        cuts: "",
-        rows: "A\u{8}A\n       aaaaaaaaaaaaaaaaaaaaaaaaaaaaaaaaaaaaaaaaaaaaaaaaaaaaaaaaaaaa\n       b cdddddddddddd\n",
-        messages: "",
-        worst: None,
-    },
-    Case {
-        page: ".TH T 1 2020-01-01 S\n.SH A\n.UR http://a/\nsite\n.UE .\n.TS\na b\n.TE\n",
-        lines: 8,
-        cuts: "",
-        rows: "A\u{8}A\n       site <http://a/>.\n       a b\n",
-        messages: "mandoc: x.1:6:2: UNSUPP: unsupported table, equation or picture\n",
-        worst: Some(Level::Unsupp),
-    },
+    (
+        ".TH T 1 2020-01-01 S\n.SH A\na\u{1}\\\nb\n",
+        3,
+        "A\u{8}A\n       a?b\nmandoc: x.1:3:2: ERROR: skipping bad character: 0x01\n",
+    ),
+    (
+        ".TH T 1 2020-01-01 S\n.SH NAME\nt \\- x\n",
+        3,
+        "N\u{8}NA\u{8}AM\u{8}ME\u{8}E\n       t - x\n",
+    ),
+    (
+        ".TH T 1 2020-01-01 S\n.SH A\na\n\nb\n",
+        5,
+        "A\u{8}A\n       a\n\n       b\nmandoc: x.1:4:1: WARNING: blank line in fill mode, using .sp\n",
+    ),
+    (
+        ".TH T 1 2020-01-01 S\n.SH A\n.ZZ\na\n",
+        4,
+        "A\u{8}A\n       a\nmandoc: x.1:3:2: ERROR: skipping unknown macro: ZZ\n",
+    ),
+    (
+        ".TH T 1 2020-01-01 S\n.SH A\na\n.RS\nb\n",
+        5,
+        "A\u{8}A\n       a\n              b\nmandoc: x.1:5:1: ERROR: appending missing end of block: RS\n",
+    ),
+    (
+        ".TH T 1 2020-01-01 S\n.SH A\na\n.RS\n.B b\n.I c\n.RE\n.TP\nd\ne\n",
+        10,
+        "A\u{8}A\n       a\n              b\u{8}b _\u{8}c\n\n       d      e\n",
+    ),
+    (
+        ".TH T 1 2020-01-01 S\n.SH A\naaaaaaaaaaaaaaaaaaaaaaaaaaaaaaaaaaa cccccccccccccccccccccccccccccccccccc\n",
+        3,
+        "A\u{8}A\n       aaaaaaaaaaaaaaaaaaaaaaaaaaaaaaaaaaa\n       cccccccccccccccccccccccccccccccccccc\n",
+    ),
+    (
+        ".TH T 1 2020-01-01 S\n.SH A\naaaaaaaaaaaaaaaaaaaaaaaaaaaaaaaaaaaaaaaaaaaaaaaaaaaaaaaaaaaa b\\ c\\c\ndddddddddddd\n",
+        4,
+        "A\u{8}A\n       aaaaaaaaaaaaaaaaaaaaaaaaaaaaaaaaaaaaaaaaaaaaaaaaaaaaaaaaaaaa\n       b cdddddddddddd\n",
+    ),
+    (
+        ".TH T 1 2020-01-01 S\n.SH A\n.UR http://a/\nsite\n.UE .\n.TS\na b\n.TE\n",
+        8,
+        "A\u{8}A\n       site <http://a/>.\n       a b\nmandoc: x.1:6:2: UNSUPP: unsupported table, equation or picture\n",
+    ),
 ];
 
 const MDOC_PAGES: &[Case] = &[
-    Case {
-        page: ".Dd January 1, 2020\n.Dt T 1\n.Os S\n.Sh NAME\n.Nm t\n.Nd x\n",
-        lines: 6,
-        cuts: "",
-        rows: "N\u{8}NA\u{8}AM\u{8}ME\u{8}E\n     t\u{8}t - x\n",
-        messages: "",
-        worst: None,
-    },
-    Case {
-        page: ".Dd January 1, 2020\n.Dt T 1\n.Os S\n.Sh A\na\n.Em b\n.Pp\nc\n",
-        lines: 8,
-        cuts: "",
-        rows: "A\u{8}A\n     a _\u{8}b\n\n     c\n",
-        messages: "",
-        worst: None,
-    },
-    Case {
-        page: ".Dd January 1, 2020\n.Dt T 1\n.Os S\n.Sh A\n.Zz\na\n",
-        lines: 6,
-        cuts: "",
-        rows: "A\u{8}A\n     a\n",
-        messages: "mandoc: x.1:5:2: ERROR: skipping unknown macro: Zz\n",
-        worst: Some(Level::Error),
-    },
-    Case {
-        page: ".Dd January 1, 2020\n.Dt T 1\n.Os S\n.Sh A\n.Bl -enum -compact\n.It\na\n.It\nb\n.El\n.Bl -column aa b\n.It x Ta y Ta z\n.El\n",
-        lines: 13,
-        cuts: "",
-        rows: "A\u{8}A\n     1.   a\n     2.   b\n\n     x     y    z\n",
-        messages: "",
-        worst: None,
-    },
+    (
+        ".Dd January 1, 2020\n.Dt T 1\n.Os S\n.Sh NAME\n.Nm t\n.Nd x\n",
+        6,
+        "N\u{8}NA\u{8}AM\u{8}ME\u{8}E\n     t\u{8}t - x\n",
+    ),
+    (
+        ".Dd January 1, 2020\n.Dt T 1\n.Os S\n.Sh A\na\n.Em b\n.Pp\nc\n",
+        8,
+        "A\u{8}A\n     a _\u{8}b\n\n     c\n",
+    ),
+    (
+        ".Dd January 1, 2020\n.Dt T 1\n.Os S\n.Sh A\n.Zz\na\n",
+        6,
+        "A\u{8}A\n     a\nmandoc: x.1:5:2: ERROR: skipping unknown macro: Zz\n",
+    ),
+    (
+        ".Dd January 1, 2020\n.Dt T 1\n.Os S\n.Sh A\n.Bl -enum -compact\n.It\na\n.It\nb\n.El\n.Bl -column aa b\n.It x Ta y Ta z\n.El\n",
+        13,
+        "A\u{8}A\n     1.   a\n     2.   b\n\n     x     y    z\n",
+    ),
 ];
 
 // Cuts a page and feeds its lines, and compares what comes of it.
 fn check_page<P: FedPage + Drop, R: Abort + AllocGlobal>(rt: &R, mut page: P, case: &Case) {
+    let (text, lines, shown) = *case;
     let mut cuts = Notes::new(rt.alloc(), 0);
-    let bytes = case.page.as_bytes();
-    let fed = cut(rt.alloc(), Encoding::Auto, bytes, &mut cuts, &mut page);
+    let fed = cut(
+        rt.alloc(),
+        Encoding::Auto,
+        text.as_bytes(),
+        &mut cuts,
+        &mut page,
+    );
     check_answer(rt, fed, Ok(()));
-    check_text(rt, cuts.text.as_slice(), case.cuts);
-    check_counts(rt, page.counts(), counts_of(case.lines));
+    check_counts(rt, page.counts(), counts_of(lines));
     let kept = page.kept();
-    check(rt, kept.notes.worst == case.worst);
-    check_text(rt, kept.rows.text.as_slice(), case.rows);
-    check_text(rt, kept.notes.text.as_slice(), case.messages);
+    let mut all = Vec::new(rt.alloc());
+    for part in [&kept.rows.text, &cuts.text, &kept.notes.text] {
+        let _ = all.extend_from_slice(part.as_slice());
+    }
+    check_text(rt, all.as_slice(), shown);
 }
 
 // A page by hand, whose sinks do not fail.
@@ -180,55 +141,17 @@ fn pages_by_hand(rt: HostRuntime) -> Result<(), Fail> {
 }
 
 const STEPS: &[Step] = &[
-    Step {
-        line: ".SH A",
-        rows: "A\u{8}A\n",
-        open: (1, 0),
-        taken: 1,
-        expansions: 0,
-    },
-    Step {
-        line: "one two",
-        rows: "A\u{8}A\n",
-        open: (1, 7),
-        taken: 2,
-        expansions: 0,
-    },
-    Step {
-        line: "three",
-        rows: "A\u{8}A\n",
-        open: (1, 13),
-        taken: 3,
-        expansions: 0,
-    },
-    Step {
-        line: ".RS",
-        rows: "A\u{8}A\n       one two three\n",
-        open: (2, 0),
-        taken: 4,
-        expansions: 0,
-    },
-    Step {
-        line: ".B",
-        rows: "A\u{8}A\n       one two three\n",
-        open: (3, 0),
-        taken: 5,
-        expansions: 0,
-    },
-    Step {
-        line: "four",
-        rows: "A\u{8}A\n       one two three\n",
-        open: (2, 4),
-        taken: 6,
-        expansions: 0,
-    },
-    Step {
-        line: ".RE",
-        rows: "A\u{8}A\n       one two three\n              f\u{8}fo\u{8}ou\u{8}ur\u{8}r\n",
-        open: (1, 0),
-        taken: 7,
-        expansions: 0,
-    },
+    (".SH A", "A\u{8}A\n", (1, 0)),
+    ("one two", "A\u{8}A\n", (1, 7)),
+    ("three", "A\u{8}A\n", (1, 13)),
+    (".RS", "A\u{8}A\n       one two three\n", (2, 0)),
+    (".B", "A\u{8}A\n       one two three\n", (3, 0)),
+    ("four", "A\u{8}A\n       one two three\n", (2, 4)),
+    (
+        ".RE",
+        "A\u{8}A\n       one two three\n              f\u{8}fo\u{8}ou\u{8}ur\u{8}r\n",
+        (1, 0),
+    ),
 ];
 
 #[test]

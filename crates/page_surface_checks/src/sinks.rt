@@ -1,6 +1,6 @@
 //! Sinks of rows and of messages: they keep what is printed of what they are given, and fail at the call of a number.
 
-use page_core::{Cell, Fault, Level, Note, NoteSink, RowSink, cell_bytes, write_note};
+use page_core::{Cell, Fault, Note, NoteSink, RowSink, cell_bytes, write_note};
 use std::alloc::Global;
 
 /// Keeps rows as they are printed.
@@ -13,11 +13,10 @@ pub(crate) struct Rows {
     failures: u64,
 }
 
-/// Keeps messages as they are printed, and their worst level.
+/// Keeps messages as they are printed.
 #[derive(Drop)]
 pub(crate) struct Notes {
     pub(crate) text: Vec<u8>,
-    pub(crate) worst: Option<Level>,
     // The call that fails; 0: none.
     failing: u64,
     calls: u64,
@@ -41,7 +40,6 @@ impl Notes {
     pub(crate) fn new(alloc: Global, failing: u64) -> Notes {
         Notes {
             text: Vec::new(alloc),
-            worst: None,
             failing,
             calls: 0,
             failures: 0,
@@ -63,14 +61,6 @@ impl Kept {
             rows: Rows::new(alloc, failing.0),
             notes: Notes::new(alloc, failing.1),
         }
-    }
-}
-
-// The worse of the levels so far and one more.
-fn worse(worst: Option<Level>, level: Level) -> Option<Level> {
-    match worst {
-        Some(worst) if !worst.is_below(level) => Some(worst),
-        _ => Some(level),
     }
 }
 
@@ -150,7 +140,6 @@ impl NoteSink for Notes {
             return Err(Fault::WriteNotes);
         }
         let _ = write_note(&mut self.text, "x.1", note);
-        self.worst = worse(self.worst, note.kind.level());
         Ok(())
     }
 }

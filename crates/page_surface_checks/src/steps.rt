@@ -1,32 +1,20 @@
 //! A page line by line: what came of it, what it has open, and what is counted after each line.
 
-use crate::checks::{check, check_answer, check_counts, check_text};
+use crate::checks::{check, check_answer, check_counts, check_text, counts_of};
 use crate::lines::FedPage;
 use page_core::Fault;
-use page_roff::Counts;
 use std::process::Abort;
 
-/// A line; the rows so far, after it; how many scopes are open then, and how many cells the open row has; how many lines were taken, and how many
-/// interpolations made.
-pub(crate) struct Step {
-    pub(crate) line: &'static str,
-    pub(crate) rows: &'static str,
-    pub(crate) open: (usize, usize),
-    pub(crate) taken: u64,
-    pub(crate) expansions: u64,
-}
+/// A line, which is taken once and interpolates nothing; the rows so far, after it; how many scopes are open then, and how many cells the open row has.
+pub(crate) type Step = (&'static str, &'static str, (usize, usize));
 
 // Feeds a line of a number, and compares what holds then.
 fn check_step<P: FedPage>(rt: &impl Abort, page: &mut P, number: u32, step: &Step) {
-    check_answer(rt, page.line(step.line.as_bytes(), number), Ok(()));
-    check(rt, page.open() == step.open);
-    let counts = Counts {
-        source: u64::from(number),
-        taken: step.taken,
-        expansions: step.expansions,
-    };
-    check_counts(rt, page.counts(), counts);
-    check_text(rt, page.kept().rows.text.as_slice(), step.rows);
+    let (line, rows, open) = *step;
+    check_answer(rt, page.line(line.as_bytes(), number), Ok(()));
+    check(rt, page.open() == open);
+    check_counts(rt, page.counts(), counts_of(u64::from(number)));
+    check_text(rt, page.kept().rows.text.as_slice(), rows);
 }
 
 /// Feeds lines to a page, which have no message, and its end, after which it takes nothing more and holds nothing.
