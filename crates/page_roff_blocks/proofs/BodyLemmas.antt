@@ -3,7 +3,6 @@ use Rattle.std.proofs.Common.{◌≡◌, ℕ, Bool, true, false, not, List, Opti
 use Rattle.page_roff_blocks.specs.machine.Languages.{Kind, page, body, run_body, meaning_at}
 use Rattle.page_roff_blocks.specs.machine.Budgets.{Budgeted, Effects, with_rest, charge, language}
 use Rattle.page_roff_blocks.proofs.KeepLemmas.{IsAny, any_line, any_lines}
-use Rattle.page_roff_blocks.proofs.SameLemmas.{AnyTest, any_test}
 use Rattle.page_roff_blocks.proofs.TieLemmas.{Alike}
 use Rattle.page_roff_blocks.proofs.LanguageTies.{AnyKind, TiesLanguages, body_tied}
 use Rattle.page_roff_blocks.proofs.StepLemmas.{Pays, pays_tied}
@@ -31,11 +30,11 @@ module _ {R : Type 0} (e : Effects R) (P : Budgeted R → Type 0) (charge_keeps 
   pays_kept : Pays IsBody (Fresh P P) P P P (language e)
   pays_kept = steps_paid (λ r. 0) 0 e (free e) IsBody P P P kept
 
-  pub language_kept : TiesLanguages IsAny AnyTest AnyKind (Alike (Fresh P P)) (Alike P) (Alike P) (language e) (language e)
+  pub language_kept : TiesLanguages IsAny AnyKind (Alike (Fresh P P)) (Alike P) (Alike P) (language e) (language e)
   language_kept = pays_tied IsBody (Fresh P P) P P P (language e) pays_kept (λ args e. absurd (cc))
 
   pub body_keeps : (d : ℕ) (args : Option (List (List ℕ))) (lines : List (List ℕ)) (s : Budgeted R) → P s
       → P (run_body (language e) (meaning_at (language e) d (body args)) lines s)
   body_keeps d args lines s h =
-      (body_tied IsAny AnyTest AnyKind (Alike (Fresh P P)) (Alike P) (Alike P) (language e) (language e) any_line any_test language_kept d (body args) tt
+      (body_tied IsAny AnyKind (Alike (Fresh P P)) (Alike P) (Alike P) (language e) (language e) any_line language_kept d (body args) tt
       (λ line c. pays_kept.lines d (body args) (λ e. absurd (cc)) line) lines (any_lines lines) s s (refl, h)).1

@@ -9,7 +9,6 @@ use Rattle.page_roff_blocks.specs.machine.Budgets.{Budgeted, Effects, with_rest,
 use Rattle.page_roff_blocks.proofs.BodyLemmas.{IsBody, kept, language_kept}
 use Rattle.page_roff_blocks.proofs.LedgerLemmas.{Fresh, free, parts_paid, lines_from}
 use Rattle.page_roff_blocks.proofs.KeepLemmas.{IsAny, any_line}
-use Rattle.page_roff_blocks.proofs.SameLemmas.{AnyTest, any_test}
 use Rattle.page_roff_blocks.proofs.TieLemmas.{Alike, step_tied}
 use Rattle.page_roff_blocks.proofs.LanguageTies.{AnyKind, gives_tied, closes_tied, dones_tied}
 
@@ -54,12 +53,12 @@ module _ {R : Type 0} (e : Effects R) (n : ℕ) where
       let B = Alike Within in
       let k = kept e Within charge_within rest_within in
       let q = language_kept e Within charge_within rest_within in
-      let dones = dones_tied IsAny AnyTest AnyKind N B B (language e) (language e) any_line any_test q CALLS in
+      let dones = dones_tied IsAny AnyKind N B B (language e) (language e) any_line q CALLS in
       let r =
-      step_tied IsAny AnyTest N B B m m (parts_paid (λ r. 0) 0 e (free e) IsBody Within Within Within k CALLS page)
-      (gives_tied IsAny AnyTest AnyKind N B B (language e) (language e) any_line any_test q CALLS dones page tt)
-      (closes_tied IsAny AnyTest AnyKind N B B (language e) (language e) any_line any_test q CALLS dones page tt) (λ t. t) (Alike Starts) line
-      (lines_from (λ r. 0) 0 e (free e) IsBody Within Within Within k Starts CALLS page begin_within line) (any_line line tt) (any_test line tt) a a (refl, (refl, h)) in
+      step_tied IsAny N B B m m (parts_paid (λ r. 0) 0 e (free e) IsBody Within Within Within k CALLS page)
+      (gives_tied IsAny AnyKind N B B (language e) (language e) any_line q CALLS dones page tt)
+      (closes_tied IsAny AnyKind N B B (language e) (language e) any_line q CALLS dones page tt) (λ t. t) (Alike Starts) line
+      (lines_from (λ r. 0) 0 e (free e) IsBody Within Within Within k Starts CALLS page begin_within line) (any_line line tt) a a (refl, (refl, h)) in
       omega (arith, r.1.1)
 
 pub page_line_bound : {R : Type 0} (e : Effects R) (line : List ℕ) (a : At (Budgeted R)) → (run_page (language e) (line ∷ []) a).state.taken ≤ a.state.taken + 1 + REREAD

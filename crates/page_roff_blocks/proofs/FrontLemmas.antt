@@ -7,7 +7,6 @@ use Rattle.page_roff_blocks.specs.machine.Languages.{Kind, Done, gives, calls, r
 use Rattle.page_roff_blocks.specs.machine.Machine.{Turning, Frame, Running, depth, line_in, line_rest, finish_if, ended, after_line, rest, rest_of}
 use Rattle.page_roff_blocks.specs.machine.Fronts.{over_pair, over, over_running, over_done, IsFront}
 use Rattle.page_roff_blocks.proofs.KeepLemmas.{IsAny, any_leaves, any_line, any_lines}
-use Rattle.page_roff_blocks.proofs.SameLemmas.{AnyTest, any_tested, any_test}
 use Rattle.page_roff_blocks.proofs.TieLemmas.{Both, BothAt, Met, TiesParts, TiesLine, one_tie, of_one, same_at, parts_tied, lines_tied}
 use Rattle.page_roff_blocks.proofs.LanguageTies.{DoneTied, give, call, repeat, AnyKind, TiesLanguages, finish_tied, turns_tied, gives_tied, closes_tied, dones_tied, body_tied}
 
@@ -21,7 +20,7 @@ module _ {S : Type 0} (front : S → S) (l : Language S) (f : IsFront front l) w
   both_front : (v w : Bool × S) → w ≡ over_pair front v → Both Front v w
   both_front v w e = rw e (refl, refl)
 
-  parts_front : (d : ℕ) (kind : Kind) → TiesParts IsAny AnyTest Front Front Front (meaning_at l d kind) (meaning_at l d kind)
+  parts_front : (d : ℕ) (kind : Kind) → TiesParts IsAny Front Front Front (meaning_at l d kind) (meaning_at l d kind)
   unfolding meaning_at meaning_by
   parts_front d kind =
       let k = f.parts kind in
@@ -29,7 +28,7 @@ module _ {S : Type 0} (front : S → S) (l : Language S) (f : IsFront front l) w
         base = of_one Front;
         full = λ s t r. r;
         meets = λ next s t r. rw (← of_one Front next s t r) (met_front _ _ (k.meets next s));
-        tests = λ condition s t c r. rw (← r) (both_front _ _ (k.tests condition s));
+        tests = λ condition s t r. rw (← r) (both_front _ _ (k.tests condition s));
         refuses = λ h s t r. rw (← r) (sym (k.refuses h s));
         unopened = λ s t r. rw (← r) (sym (k.unopened s));
         opens_region = λ head run s t r. rw (← r) (sym (k.opens_region head run s));
@@ -53,7 +52,7 @@ module _ {S : Type 0} (front : S → S) (l : Language S) (f : IsFront front l) w
   done_front (calls lines args s) = call lines args s (front s) (any_lines lines) tt refl
   done_front (repeats condition lines s) = repeat condition lines s (front s) tt (any_lines lines) refl
 
-  front_tied : TiesLanguages IsAny AnyTest AnyKind Front Front Front l l
+  front_tied : TiesLanguages IsAny AnyKind Front Front Front l l
   front_tied = record {
     inner = λ kind a. tt;
     parts = λ d kind a. parts_front d kind;
@@ -66,18 +65,18 @@ module _ {S : Type 0} (front : S → S) (l : Language S) (f : IsFront front l) w
 
   gives_front : (d : ℕ) (kind : Kind) (text : List ℕ) (s t : S) → IsAny text → Front s t → Front ((meaning_at l d kind).gives text s) ((meaning_at l d kind).gives text t)
   gives_front d kind =
-      gives_tied IsAny AnyTest AnyKind Front Front Front l l any_line any_test front_tied d (dones_tied IsAny AnyTest AnyKind Front Front Front l l any_line any_test front_tied d) kind tt
+      gives_tied IsAny AnyKind Front Front Front l l any_line front_tied d (dones_tied IsAny AnyKind Front Front Front l l any_line front_tied d) kind tt
 
   closes_front : (d : ℕ) (kind : Kind) (s t : S) → Front s t → Front ((meaning_at l d kind).closes_loop s) ((meaning_at l d kind).closes_loop t)
   closes_front d kind =
-      closes_tied IsAny AnyTest AnyKind Front Front Front l l any_line any_test front_tied d (dones_tied IsAny AnyTest AnyKind Front Front Front l l any_line any_test front_tied d) kind tt
+      closes_tied IsAny AnyKind Front Front Front l l any_line front_tied d (dones_tied IsAny AnyKind Front Front Front l l any_line front_tied d) kind tt
 
   in_front : (d : ℕ) (kind : Kind) (region : Option Opened) (g : Frame) (s t : S) → Front s t
       → BothAt Front (line_in l (meaning_at l d kind) region g s) (line_in l (meaning_at l d kind) region g t)
   unfolding line_in
   in_front d kind None g s t r =
       let m = meaning_at l d kind in
-      parts_tied IsAny AnyTest Front Front Front m m (parts_front d kind) (gives_front d kind) (closes_front d kind) g.parts (any_leaves g.parts) (any_tested g.parts) g.cursor s t
+      parts_tied IsAny Front Front Front m m (parts_front d kind) (gives_front d kind) (closes_front d kind) g.parts (any_leaves g.parts) g.cursor s t
       (one_tie Front g.cursor.begun s t r)
   in_front d kind (Some o) g s t r = (refl, r)
 
@@ -85,20 +84,20 @@ module _ {S : Type 0} (front : S → S) (l : Language S) (f : IsFront front l) w
       → BothAt Front (step_lines (meaning_at l d kind) (λ t. t) lines a) (step_lines (meaning_at l d kind) (λ t. t) lines b)
   lines_front d kind lines =
       let m = meaning_at l d kind in
-      lines_tied IsAny AnyTest Front Front Front m m (parts_front d kind) (gives_front d kind) (closes_front d kind) any_line any_test (line_front d kind) lines (any_lines lines)
+      lines_tied IsAny Front Front Front m m (parts_front d kind) (gives_front d kind) (closes_front d kind) any_line (line_front d kind) lines (any_lines lines)
 
   last_front : (begun : Bool) (a b : At S) → BothAt Front a b → Front (finish_if l begun a) (finish_if l begun b)
   unfolding finish_if
-  last_front true a b r = finish_tied IsAny AnyTest AnyKind Front Front Front l l any_line any_test front_tied a b r
+  last_front true a b r = finish_tied IsAny AnyKind Front Front Front l l any_line front_tied a b r
   last_front false a b r = r.1
 
   ended_front : (turning : Option Turning) (d : ℕ) (kind : Kind) (a b : At S) → BothAt Front a b → Front (ended l turning (meaning_at l d kind) kind a) (ended l turning (meaning_at l d kind) kind b)
   unfolding ended
-  ended_front None d kind a b r = finish_tied IsAny AnyTest AnyKind Front Front Front l l any_line any_test front_tied a b r
+  ended_front None d kind a b r = finish_tied IsAny AnyKind Front Front Front l l any_line front_tied a b r
   ended_front (Some t) d kind a b r =
       let run = run_body l (meaning_at l d kind) t.lines in
-      turns_tied IsAny AnyTest AnyKind Front Front Front l l any_line any_test front_tied kind t.condition tt tt run run
-      (body_tied IsAny AnyTest AnyKind Front Front Front l l any_line any_test front_tied d kind tt (line_front d kind) t.lines (any_lines t.lines)) t.left
+      turns_tied IsAny AnyKind Front Front Front l l any_line front_tied kind t.condition tt tt run run
+      (body_tied IsAny AnyKind Front Front Front l l any_line front_tied d kind tt (line_front d kind) t.lines (any_lines t.lines)) t.left
       (finish_if l t.begun a) (finish_if l t.begun b) (last_front t.begun a b r)
 
   after_front : (kind : Kind) (turning : Option Turning) (lines : List (List ℕ)) (under : List Frame) (a b : At S) → BothAt Front a b

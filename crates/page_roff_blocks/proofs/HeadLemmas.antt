@@ -4,7 +4,6 @@ use Rattle.page_roff_blocks.specs.machine.Run.{Meaning, At, run_lines, headed, e
 use Rattle.page_roff_blocks.specs.machine.Steps.{step, step_lines}
 use Rattle.page_roff_blocks.proofs.FoldLemmas.{run_is_steps}
 use Rattle.page_roff_blocks.proofs.KeepLemmas.{IsAny, any_line}
-use Rattle.page_roff_blocks.proofs.SameLemmas.{AnyTest, any_test}
 use Rattle.page_roff_blocks.proofs.TieLemmas.{TiesParts, TiesLine, one_tie, of_one, same_at, step_tied}
 
 module _ {X S : Type 0} (text : X → List ℕ) (head : X → S → S) (m : Meaning (List ℕ) S) where
@@ -18,13 +17,13 @@ module _ {X S : Type 0} (text : X → List ℕ) (head : X → S → S) (m : Mean
   abbrev pub Before : X → S → S → Type 0
   Before x s t = head x s ≡ t
 
-  parts_same : TiesParts IsAny AnyTest Same Same Same h m
+  parts_same : TiesParts IsAny Same Same Same h m
   unfolding headed h
   parts_same = record {
     base = of_one Same;
     full = λ s t r. r;
     meets = λ next s t r. rw (of_one Same next s t r) (refl, one_tie Same (m.meets next t).0 (m.meets next t).1 (m.meets next t).1 refl);
-    tests = λ c s t u r. rw r (refl, refl);
+    tests = λ c s t r. rw r (refl, refl);
     refuses = λ b s t r. ap (m.refuses b) r;
     unopened = λ s t r. ap m.unopened r;
     opens_region = λ b run s t r. ap (m.opens_region b run) r;
@@ -46,8 +45,8 @@ module _ {X S : Type 0} (text : X → List ℕ) (head : X → S → S) (m : Mean
   step_same x a =
       let b = after_head head x a in
       same_at (step h text x a) (step m (λ t. t) (text x) b)
-      (step_tied IsAny AnyTest Same Same Same h m parts_same (λ line s t u r. ap (m.gives line) r) (λ s t r. ap m.closes_loop r) text (Before x) x (line_same x)
-      (any_line (text x) tt) (any_test (text x) tt) a b (refl, refl))
+      (step_tied IsAny Same Same Same h m parts_same (λ line s t u r. ap (m.gives line) r) (λ s t r. ap m.closes_loop r) text (Before x) x (line_same x)
+      (any_line (text x) tt) a b (refl, refl))
       ∙ sym (run_is_steps m (λ t. t) (text x ∷ []) b)
 
   steps_same : (xs : List X) (a : At S) → step_lines h text xs a ≡ each_line text head m xs a

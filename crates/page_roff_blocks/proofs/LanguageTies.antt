@@ -1,13 +1,11 @@
 -- Two languages side by side: with the macros that they call and their loops, states that are tied stay tied. Helpers of proofs.
 use Rattle.std.proofs.Common.{ℕ, zero, suc, Bool, true, false, List, Option, Some, None, refl, subst}
-use Rattle.page_roff_heads.specs.declared.conditions.Condition.{Condition}
 use Rattle.page_roff_syntax.specs.Regions.{Opened}
 use Rattle.page_roff_blocks.specs.Forest.{first_place, SourcePlace}
 use Rattle.page_roff_blocks.specs.machine.Run.{At, run_lines}
 use Rattle.page_core_base.specs.declared.limits.TheConstants.{CALLS}
 use Rattle.page_roff_blocks.specs.machine.Languages.{Kind, page, body, inner, Done, gives, calls, repeats, state_of, TURNS, Language, is_some, run_if, turns, finish_at, run_body, done_by, meaning_by, done_at, meaning_at, run_page}
 use Rattle.page_roff_blocks.proofs.KeepLemmas.{AreSuch, HasLeaves, IsAny, any_lines}
-use Rattle.page_roff_blocks.proofs.SameLemmas.{HasTests}
 use Rattle.page_roff_blocks.proofs.TieLemmas.{Alike, Both, BothAt, TiesParts, TiesLine, run_tied}
 
 -- States that are tied are given, or the same lines are called or repeated, which are such.
@@ -26,17 +24,17 @@ kept_done P (calls lines args s) h = call lines args s s (any_lines lines) tt (r
 kept_done P (repeats condition lines s) h = repeat condition lines s s tt (any_lines lines) (refl, h)
 
 -- In sources of such kinds. The lines are those of bodies.
-pub record TiesLanguages {S Q : Type 0} (T : List ℕ → Type 0) (C : Condition (List ℕ) → Type 0) (K : Kind → Type 0) (N F B : S → Q → Type 0) (l : Language S) (o : Language Q) : Type 0 where
+pub record TiesLanguages {S Q : Type 0} (T : List ℕ → Type 0) (K : Kind → Type 0) (N F B : S → Q → Type 0) (l : Language S) (o : Language Q) : Type 0 where
   pub inner : (kind : Kind) → K kind → K (inner kind)
-  pub parts : (d : ℕ) (kind : Kind) → K kind → TiesParts T C N F B (meaning_at l d kind) (meaning_at o d kind)
+  pub parts : (d : ℕ) (kind : Kind) → K kind → TiesParts T N F B (meaning_at l d kind) (meaning_at o d kind)
   pub lines : (d : ℕ) (args : Option (List (List ℕ))) → K (body args) → (line : List ℕ) → T line → TiesLine B N B (meaning_at l d (body args)) (meaning_at o d (body args)) line line
   pub leaf : (may_call : Bool) (kind : Kind) (text : List ℕ) (s : S) (t : Q) → K kind → T text → F s t → DoneTied T K B (l.leaf may_call kind text s) (o.leaf may_call kind text t)
   pub closes : (may_run : Bool) (s : S) (t : Q) → B s t → DoneTied T K B (l.closes may_run s) (o.closes may_run t)
   pub turn : (kind : Kind) (condition : List ℕ) (s : S) (t : Q) → K kind → T condition → B s t → Both B (l.turn kind condition s) (o.turn kind condition t)
   pub finish : (region : Option Opened) (in_loop : Bool) (s : S) (t : Q) → B s t → B (l.finish region in_loop s) (o.finish region in_loop t)
 
-module _ {S Q : Type 0} (T : List ℕ → Type 0) (C : Condition (List ℕ) → Type 0) (K : Kind → Type 0) (N F B : S → Q → Type 0) (l : Language S) (o : Language Q)
-    (leaves : HasLeaves T) (tested : HasTests T C) (k : TiesLanguages T C K N F B l o) where
+module _ {S Q : Type 0} (T : List ℕ → Type 0) (K : Kind → Type 0) (N F B : S → Q → Type 0) (l : Language S) (o : Language Q)
+    (leaves : HasLeaves T) (k : TiesLanguages T K N F B l o) where
   pub finish_tied : (a : At S) (b : At Q) → BothAt B a b → B (finish_at l a) (finish_at o b)
   unfolding finish_at
   finish_tied a b h =
@@ -78,7 +76,7 @@ module _ {S Q : Type 0} (T : List ℕ → Type 0) (C : Condition (List ℕ) → 
       → (lines : List (List ℕ)) → AreSuch T lines → (a : At S) (b : At Q) → BothAt B a b
       → BothAt B (run_lines (meaning_at l d kind) (λ t. t) lines a) (run_lines (meaning_at o d kind) (λ t. t) lines b)
   source_tied d dones kind a i lines c =
-      run_tied T C N F B (meaning_at l d kind) (meaning_at o d kind) (k.parts d kind a) (gives_tied d dones kind a) (closes_tied d dones kind a) leaves tested i lines c
+      run_tied T N F B (meaning_at l d kind) (meaning_at o d kind) (k.parts d kind a) (gives_tied d dones kind a) (closes_tied d dones kind a) leaves i lines c
 
   body_by : (d : ℕ) → DonesTied d → (kind : Kind) → K kind → ((line : List ℕ) → T line → TiesLine B N B (meaning_at l d kind) (meaning_at o d kind) line line)
       → (lines : List (List ℕ)) → AreSuch T lines → (s : S) (t : Q) → B s t → B (run_body l (meaning_at l d kind) lines s) (run_body o (meaning_at o d kind) lines t)

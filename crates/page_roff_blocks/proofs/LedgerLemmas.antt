@@ -6,7 +6,6 @@ use Rattle.page_roff_blocks.specs.machine.Languages.{Kind, page, body, Done, giv
 use Rattle.page_roff_blocks.specs.machine.Budgets.{Budgeted, Effects, with_rest, charge, begin_line, whether_run, meet, test, unopened_by, read_line, end_line, collect_some, meaning, done_with, closed_with, turn_by, turn, language}
 use Rattle.page_roff_blocks.specs.laws.Spent.{Spends}
 use Rattle.page_roff_blocks.proofs.KeepLemmas.{IsAny}
-use Rattle.page_roff_blocks.proofs.SameLemmas.{AnyTest}
 use Rattle.page_roff_blocks.proofs.TieLemmas.{Alike, Ties, Met, TiesParts, TiesLine}
 use Rattle.page_roff_blocks.proofs.StepLemmas.{PaidDone, Pays}
 
@@ -121,13 +120,13 @@ module _ {R : Type 0} (spent : R → ℕ) (most : ℕ) (e : Effects R) (p : Spen
   meets_paid true s t r = rw (← r.0) (refl, ready_ties (not (charge e s).gave_up) (charge e s) (k.charges s r.1))
   meets_paid false s t r = rw (← r.0) (refl, ready_ties (not s.gave_up) s r.1)
 
-  pub parts_paid : (d : ℕ) (kind : Kind) → TiesParts IsAny AnyTest (Alike (Fresh F B)) (Alike F) (Alike B) (meaning_at (language e) d kind) (meaning_at (language e) d kind)
+  pub parts_paid : (d : ℕ) (kind : Kind) → TiesParts IsAny (Alike (Fresh F B)) (Alike F) (Alike B) (meaning_at (language e) d kind) (meaning_at (language e) d kind)
   unfolding meaning_at meaning_by language meaning test
   parts_paid d kind = record {
     base = line_base;
     full = λ s t r. (r.0, k.full s r.1);
     meets = meets_paid;
-    tests = λ condition s t c r.
+    tests = λ condition s t r.
         let v = (e.tests kind condition s.rest).1 in rw (← r.0) (refl, (refl, k.body (with_rest e s v) (k.pays s v (p.tests kind condition s.rest) r.1)));
     refuses = λ h s t r. rw (← r.0) (refl, k.same s (e.refuses h s.rest) (p.refuses h s.rest) r.1);
     unopened = λ s t r. rw (← r.0) (refl, unopened_base kind s.gave_up s r.1);

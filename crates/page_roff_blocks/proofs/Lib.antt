@@ -20,5 +20,3 @@ pub mod StepLemmas
 pub mod TieLemmas
 pub mod TurnLemmas
 pub mod DepthLemmas
-pub mod SameEffects
-pub mod SameLemmas

@@ -12,7 +12,6 @@ use Rattle.page_roff_blocks.specs.machine.Machine.{Frame, Running, entered, loop
 use Rattle.page_roff_blocks.specs.laws.Spent.{Spends}
 use Rattle.page_roff_blocks.specs.machine.Spending.{unspent_if, unspent_at, unspent, AreMet, LeadsIn, Leads}
 use Rattle.page_roff_blocks.proofs.KeepLemmas.{IsAny, any_line, any_lines}
-use Rattle.page_roff_blocks.proofs.SameLemmas.{AnyTest, any_test}
 use Rattle.page_roff_blocks.proofs.TieLemmas.{Alike}
 use Rattle.page_roff_blocks.proofs.LanguageTies.{AnyKind, page_tied}
 use Rattle.page_roff_blocks.proofs.StepLemmas.{Pays, Rules, pays_tied, next_rule}
@@ -78,7 +77,7 @@ module _ {R : Type 0} (spent : R → ℕ) (most : ℕ) (e : Effects R) (p : Spen
 
   pub page_base : (lines : List (List ℕ)) (x : At (Budgeted R)) → Base x.state → Base (run_page (language e) lines x).state
   page_base lines x h =
-      (page_tied IsAny AnyTest AnyKind (Alike (Fresh Full Base)) (Alike Full) (Alike Base) (language e) (language e) any_line any_test
+      (page_tied IsAny AnyKind (Alike (Fresh Full Base)) (Alike Full) (Alike Base) (language e) (language e) any_line
       (pays_tied AnyKind (Fresh Full Base) Full Base Base (language e) paid_steps (λ args. tt)) tt (λ line c. paid_steps.lines CALLS page tt line) lines (any_lines lines) x x
       (refl, (refl, h))).1.1
 

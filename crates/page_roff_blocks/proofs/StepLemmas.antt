@@ -13,7 +13,6 @@ use Rattle.page_roff_blocks.specs.machine.Steps.{met, guard_met, step_guard, blo
 use Rattle.page_roff_blocks.specs.machine.Languages.{Kind, body, Done, gives, calls, repeats, state_of, Language, is_some, finish_at, meaning_at}
 use Rattle.page_roff_blocks.specs.machine.Machine.{Turning, Frame, Running, entered, looped, turned, at_part, between, depth, finish_if, leaf_next, leaf_if, loop_next, loop_if, end_next, part_next, region_next, line_next, turn_if, turn_next, body_next, source_next, next_in, next}
 use Rattle.page_roff_blocks.proofs.KeepLemmas.{IsAny, any_head, any_opening}
-use Rattle.page_roff_blocks.proofs.SameLemmas.{AnyTest, any_branch, any_tests}
 use Rattle.page_roff_blocks.proofs.TieLemmas.{Alike, Ties, TiesParts, TiesLine, one_tie, of_one, met_tied, ready_tied, guard_tied, block_tied, keep_tied, begin_tied}
 use Rattle.page_roff_blocks.proofs.LanguageTies.{AnyKind, TiesLanguages, kept_done}
 
@@ -29,7 +28,7 @@ done_base B G begun (repeats condition lines s) h = h
 
 -- `N` holds where a line began, `F` where a part is run, `G` where a body begins and `B` at all other times; lines come in sources of such kinds.
 pub record Pays {S : Type 0} (K : Kind → Type 0) (N F B G : S → Type 0) (l : Language S) : Type 0 where
-  pub parts : (d : ℕ) (kind : Kind) → TiesParts IsAny AnyTest (Alike N) (Alike F) (Alike B) (meaning_at l d kind) (meaning_at l d kind)
+  pub parts : (d : ℕ) (kind : Kind) → TiesParts IsAny (Alike N) (Alike F) (Alike B) (meaning_at l d kind) (meaning_at l d kind)
   pub lines : (d : ℕ) (kind : Kind) → K kind → (line : List ℕ) → TiesLine (Alike B) (Alike N) (Alike B) (meaning_at l d kind) (meaning_at l d kind) line line
   pub body : (s : S) → G s → B s
   pub leaf : (may_run : Bool) (kind : Kind) (text : List ℕ) (s : S) → F s → PaidDone B G (l.leaf may_run kind text s)
@@ -38,7 +37,7 @@ pub record Pays {S : Type 0} (K : Kind → Type 0) (N F B G : S → Type 0) (l :
   pub finish : (region : Option Opened) (in_loop : Bool) (s : S) → B s → B (l.finish region in_loop s)
 
 pub pays_tied : {S : Type 0} (K : Kind → Type 0) (N F B G : S → Type 0) (l : Language S) → Pays K N F B G l → ((args : Option (List (List ℕ))) → K (body args))
-    → TiesLanguages IsAny AnyTest AnyKind (Alike N) (Alike F) (Alike B) l l
+    → TiesLanguages IsAny AnyKind (Alike N) (Alike F) (Alike B) l l
 pays_tied K N F B G l p bodies = record {
   inner = λ kind c. tt;
   parts = λ d kind c. p.parts d kind;
@@ -74,7 +73,7 @@ module _ {S : Type 0} (K : Kind → Type 0) (N F B G : S → Type 0) (l : Langua
   abbrev pub m : Meaning (List ℕ) S
   m = meaning_at l (depth r.under) r.top.kind
 
-  abbrev pub parts : TiesParts IsAny AnyTest (Alike N) (Alike F) (Alike B) (meaning_at l (depth r.under) r.top.kind) (meaning_at l (depth r.under) r.top.kind)
+  abbrev pub parts : TiesParts IsAny (Alike N) (Alike F) (Alike B) (meaning_at l (depth r.under) r.top.kind) (meaning_at l (depth r.under) r.top.kind)
   parts = p.parts (depth r.under) r.top.kind
 
   fresh_by : (begun : Bool) → (begun ≡ false → N r.state) → Ties (Alike B) (Alike N) begun r.state r.state
@@ -117,7 +116,7 @@ module _ {S : Type 0} (K : Kind → Type 0) (N F B G : S → Type 0) (l : Langua
   met_rule : (part : LinePart (List ℕ)) (more : List (LinePart (List ℕ))) → r.top.region ≡ None → r.top.parts ≡ part ∷ more
       → Ties (Alike F) (Alike B) (met m r.top.cursor r.state).0 (met m r.top.cursor r.state).1 (met m r.top.cursor r.state).1
   met_rule part more none is =
-      (met_tied IsAny AnyTest (Alike N) (Alike F) (Alike B) m m parts r.top.cursor r.state r.state (fresh_by r.top.cursor.begun (q.fresh part more none is))).1
+      (met_tied IsAny (Alike N) (Alike F) (Alike B) m m parts r.top.cursor r.state r.state (fresh_by r.top.cursor.begun (q.fresh part more none is))).1
 
   part_rule : (part : LinePart (List ℕ)) (more : List (LinePart (List ℕ))) → r.top.region ≡ None → r.top.parts ≡ part ∷ more → Q (part_next l m part more r.top r.under r.state)
   unfolding part_next step_guard step_block step_region after_part at
@@ -127,12 +126,12 @@ module _ {S : Type 0} (K : Kind → Type 0) (N F B G : S → Type 0) (l : Langua
   part_rule (Guard h) more none is =
       let v = met m r.top.cursor r.state in
       let x = guard_met m v.0 h r.top.cursor v.1 in
-      let g = guard_tied IsAny AnyTest (Alike N) (Alike F) (Alike B) m m parts h r.top.cursor (any_branch h.branch) v.0 v.1 v.1 (met_rule (Guard h) more none is) in
+      let g = guard_tied IsAny (Alike N) (Alike F) (Alike B) m m parts h r.top.cursor v.0 v.1 v.1 (met_rule (Guard h) more none is) in
       q.past (Guard h) more none is x.0 g.1 x.1 g.2.1
   part_rule (Block h) more none is =
       let v = met m r.top.cursor r.state in
       let x = block_met m v.0 h r.top.cursor v.1 in
-      let g = block_tied IsAny AnyTest (Alike N) (Alike F) (Alike B) m m parts h r.top.cursor (any_opening h) (any_tests h) v.0 v.1 v.1 (met_rule (Block h) more none is) in
+      let g = block_tied IsAny (Alike N) (Alike F) (Alike B) m m parts h r.top.cursor (any_opening h) v.0 v.1 v.1 (met_rule (Block h) more none is) in
       q.past (Block h) more none is x.0 g.1 x.1 g.2.1
   part_rule (Loop h) more none is =
       let v = met m r.top.cursor r.state in
@@ -140,7 +139,7 @@ module _ {S : Type 0} (K : Kind → Type 0) (N F B G : S → Type 0) (l : Langua
   part_rule End more none is = end_rule End more none is (what_ends r.top.cursor.levels) (after_part (leave r.top.cursor.levels)) refl
   part_rule (Region h) more none is =
       let v = met m r.top.cursor r.state in
-      let b = ready_tied IsAny AnyTest (Alike N) (Alike F) (Alike B) m m parts v.0 v.1 v.1 (met_rule (Region h) more none is) in
+      let b = ready_tied IsAny (Alike N) (Alike F) (Alike B) m m parts v.0 v.1 v.1 (met_rule (Region h) more none is) in
       q.opens (Region h) more none is (opened h v.0) (m.opens_region h v.0 v.1) (parts.opens_region h v.0 v.1 v.1 b).1
 
   -- ---- lines
@@ -152,7 +151,7 @@ module _ {S : Type 0} (K : Kind → Type 0) (N F B G : S → Type 0) (l : Langua
     keep_rule : (region : Option Opened) (s : S) → Alike B s s → Q (record { top = between r.top region more; under = r.under; state = keep_if m r.top.cursor.levels.in_loop line s })
     keep_rule region s h =
         q.inside line more is region (keep_if m r.top.cursor.levels.in_loop line s)
-        (keep_tied IsAny AnyTest (Alike N) (Alike F) (Alike B) m m parts (Alike B) line line ties r.top.cursor.levels.in_loop s s h).1
+        (keep_tied IsAny (Alike N) (Alike F) (Alike B) m m parts (Alike B) line line ties r.top.cursor.levels.in_loop s s h).1
 
     region_rule : (is_end : Bool) (o : Opened) → Q (region_next l m is_end o line more r.top r.under r.state)
     unfolding region_next
@@ -163,7 +162,7 @@ module _ {S : Type 0} (K : Kind → Type 0) (N F B G : S → Type 0) (l : Langua
     unfolding line_next
     line_rule none =
         q.line line more none is (begin_line m line r.top.cursor.levels r.state)
-        (begin_tied IsAny AnyTest (Alike N) (Alike F) (Alike B) m m parts (Alike B) line line ties r.top.cursor.levels r.state r.state (refl, q.base)).1
+        (begin_tied IsAny (Alike N) (Alike F) (Alike B) m m parts (Alike B) line line ties r.top.cursor.levels r.state r.state (refl, q.base)).1
 
   -- ---- ends of sources
 
@@ -232,7 +231,7 @@ any_pays l = record {
         base = of_one (Alike Any);
         full = λ s t r. r;
         meets = λ next s t r. rw (← (of_one (Alike Any) next s t r).0) (refl, one_tie (Alike Any) (n.meets next s).0 (n.meets next s).1 (n.meets next s).1 (refl, tt));
-        tests = λ condition s t c r. rw (← r.0) (refl, (refl, tt));
+        tests = λ condition s t r. rw (← r.0) (refl, (refl, tt));
         refuses = λ h s t r. rw (← r.0) (refl, tt);
         unopened = λ s t r. rw (← r.0) (refl, tt);
         opens_region = λ head run s t r. rw (← r.0) (refl, tt);

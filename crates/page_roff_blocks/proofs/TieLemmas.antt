@@ -22,7 +22,6 @@ use Rattle.page_roff_blocks.specs.machine.Run.{Meaning, At, meet_as, value, leaf
 use Rattle.page_roff_blocks.specs.machine.Steps.{met, step_leaf, guard_with, guard_met, step_guard, block_with, opening_met, block_met, step_block, step_loop, step_end, step_region, step_parts, step_inside, collect_if, begin_line, step_from, step, step_lines}
 use Rattle.page_roff_blocks.proofs.FoldLemmas.{run_is_steps}
 use Rattle.page_roff_blocks.proofs.KeepLemmas.{IsLoopHead, IsOpening, AreLeaves, AreSuch, HasLeaves}
-use Rattle.page_roff_blocks.proofs.SameLemmas.{IsTested, IsTestedOpening, AreTested, HasTests}
 
 -- two states are the same, and such
 abbrev pub Alike : {S : Type 0} → (S → Type 0) → S → S → Type 0
@@ -61,12 +60,12 @@ pub same_at : {S : Type 0} (a b : At S) → BothAt (λ s t. s ≡ t) a b → a �
 same_at {S} a b h =
     ap (λ (s : S). record { place = a.place; state = s }) h.1 ∙ ap (λ (place : SourcePlace). record { place = place; state = b.state }) h.0
 
--- Of lines whose leaves and conditions are such: `N` ties states where a line began, `F` where a part is run, and `B` after it.
-pub record TiesParts {X S Q : Type 0} (T : List ℕ → Type 0) (C : Condition (List ℕ) → Type 0) (N F B : S → Q → Type 0) (m : Meaning X S) (n : Meaning (List ℕ) Q) : Type 0 where
+-- Of lines whose leaves are such: `N` ties states where a line began, `F` where a part is run, and `B` after it.
+pub record TiesParts {X S Q : Type 0} (T : List ℕ → Type 0) (N F B : S → Q → Type 0) (m : Meaning X S) (n : Meaning (List ℕ) Q) : Type 0 where
   pub base : (begun : Bool) (s : S) (t : Q) → Ties B N begun s t → B s t
   pub full : (s : S) (t : Q) → F s t → B s t
   pub meets : (is_remainder : Bool) (s : S) (t : Q) → Ties B N is_remainder s t → Met F B (m.meets is_remainder s) (n.meets is_remainder t)
-  pub tests : (condition : Condition (List ℕ)) (s : S) (t : Q) → C condition → F s t → Both B (m.tests condition s) (n.tests condition t)
+  pub tests : (condition : Condition (List ℕ)) (s : S) (t : Q) → F s t → Both B (m.tests condition s) (n.tests condition t)
   pub refuses : (h : Head (List ℕ)) (s : S) (t : Q) → B s t → B (m.refuses h s) (n.refuses h t)
   pub unopened : (s : S) (t : Q) → B s t → B (m.unopened s) (n.unopened t)
   pub opens_region : (head : RegionHead (List ℕ)) (is_run : Bool) (s : S) (t : Q) → B s t → B (m.opens_region head is_run s) (n.opens_region head is_run t)
@@ -80,7 +79,7 @@ pub record TiesLine {X S Q : Type 0} (A N B : S → Q → Type 0) (m : Meaning X
   pub collects : (open_blocks : ℕ) (s : S) (t : Q) → N s t → N (m.collects open_blocks x s) (n.collects open_blocks line t)
   pub keeps : (s : S) (t : Q) → B s t → B (m.keeps x s) (n.keeps line t)
 
-module _ {X S Q : Type 0} (T : List ℕ → Type 0) (C : Condition (List ℕ) → Type 0) (N F B : S → Q → Type 0) (m : Meaning X S) (n : Meaning (List ℕ) Q) (k : TiesParts T C N F B m n) where
+module _ {X S Q : Type 0} (T : List ℕ → Type 0) (N F B : S → Q → Type 0) (m : Meaning X S) (n : Meaning (List ℕ) Q) (k : TiesParts T N F B m n) where
   pub ready_tied : (is_met : Bool) (s : S) (t : Q) → Ties F B is_met s t → B s t
   ready_tied true s t h = k.full s t h
   ready_tied false s t h = h
@@ -107,19 +106,19 @@ module _ {X S Q : Type 0} (T : List ℕ → Type 0) (C : Condition (List ℕ) �
       let e = met_tied cursor s t h in
       subst (λ (is_met : Bool). Z (x q.0 q.1) (y is_met p.1)) e.0 (then q.0 q.1 p.1 e.1)
 
-  value_tied : (branch : Branch (List ℕ)) (bit : Bool) (s : S) (t : Q) → IsTested C branch → F s t → Both B (value m branch bit s) (value n branch bit t)
+  value_tied : (branch : Branch (List ℕ)) (bit : Bool) (s : S) (t : Q) → F s t → Both B (value m branch bit s) (value n branch bit t)
   unfolding value
-  value_tied (If condition) bit s t c h = k.tests condition s t c h
-  value_tied (IfElse condition) bit s t c h = k.tests condition s t c h
-  value_tied Else bit s t c h = (refl, k.full s t h)
+  value_tied (If condition) bit s t h = k.tests condition s t h
+  value_tied (IfElse condition) bit s t h = k.tests condition s t h
+  value_tied Else bit s t h = (refl, k.full s t h)
 
-  pub guard_tied : (h : Head (List ℕ)) (cursor : BlockCursor) → IsTested C h.branch → (is_met : Bool) (s : S) (t : Q) → Ties F B is_met s t
+  pub guard_tied : (h : Head (List ℕ)) (cursor : BlockCursor) (is_met : Bool) (s : S) (t : Q) → Ties F B is_met s t
       → Next B (guard_met m is_met h cursor s) (guard_met n is_met h cursor t)
   unfolding guard_met guard_with guarded_by
-  guard_tied h cursor c true s t r =
-      let v = value_tied h.branch cursor.levels.bit s t c r in
+  guard_tied h cursor true s t r =
+      let v = value_tied h.branch cursor.levels.bit s t r in
       (ap (λ (bit : Bool). guarded_by h.branch bit cursor.levels) v.0, refl, v.1)
-  guard_tied h cursor c false s t r = (refl, refl, r)
+  guard_tied h cursor false s t r = (refl, refl, r)
 
   refuse_tied : (way : Way) (h : Head (List ℕ)) (s : S) (t : Q) → B s t → B (refuse_if m way h s) (refuse_if n way h t)
   unfolding refuse_if
@@ -133,18 +132,18 @@ module _ {X S Q : Type 0} (T : List ℕ → Type 0) (C : Condition (List ℕ) �
       subst (λ (bit : Bool). Next B (block_with m h cursor v) (block_with n h cursor (bit, w.1))) r.0
       (refl, refl, refuse_tied (way_of v.0 (length cursor.levels.outer)) h v.1 w.1 r.1)
 
-  opening_tied : (opening : Opening (List ℕ)) (cursor : BlockCursor) (s : S) (t : Q) → IsOpening T opening → IsTestedOpening C opening → F s t
+  opening_tied : (opening : Opening (List ℕ)) (cursor : BlockCursor) (s : S) (t : Q) → IsOpening T opening → F s t
       → Next B (opening_met m opening cursor s) (opening_met n opening cursor t)
   unfolding opening_met after_part
-  opening_tied (openings.Conditional h) cursor s t a c r =
-      with_tied h cursor (value m h.branch cursor.levels.bit s) (value n h.branch cursor.levels.bit t) (value_tied h.branch cursor.levels.bit s t c r)
-  opening_tied (openings.Loop h) cursor s t a c r = (refl, refl, k.opens_loop h s t a (k.full s t r))
+  opening_tied (openings.Conditional h) cursor s t a r =
+      with_tied h cursor (value m h.branch cursor.levels.bit s) (value n h.branch cursor.levels.bit t) (value_tied h.branch cursor.levels.bit s t r)
+  opening_tied (openings.Loop h) cursor s t a r = (refl, refl, k.opens_loop h s t a (k.full s t r))
 
-  pub block_tied : (opening : Opening (List ℕ)) (cursor : BlockCursor) → IsOpening T opening → IsTestedOpening C opening → (is_met : Bool) (s : S) (t : Q) → Ties F B is_met s t
+  pub block_tied : (opening : Opening (List ℕ)) (cursor : BlockCursor) → IsOpening T opening → (is_met : Bool) (s : S) (t : Q) → Ties F B is_met s t
       → Next B (block_met m is_met opening cursor s) (block_met n is_met opening cursor t)
   unfolding block_met after_part
-  block_tied opening cursor a c true s t r = opening_tied opening cursor s t a c r
-  block_tied opening cursor a c false s t r = (refl, refl, r)
+  block_tied opening cursor a true s t r = opening_tied opening cursor s t a r
+  block_tied opening cursor a false s t r = (refl, refl, r)
 
   pub opens_tied : (head : RegionHead (List ℕ)) (l : Levels) (is_met : Bool) (s : S) (t : Q) → Ties F B is_met s t
       → BothAt B (open_region m head l (is_met, s)) (open_region n head l (is_met, t))
@@ -198,53 +197,53 @@ module _ {X S Q : Type 0} (T : List ℕ → Type 0) (C : Condition (List ℕ) �
         subst (λ (c : BlockCursor). BothAt B (step_parts m rest x.0 x.1) (step_parts n rest c y.1)) e.0
         (then x.0 x.1 y.1 (subst (λ (begun : Bool). Ties B N begun x.1 y.1) (sym e.1) e.2))
 
-    pub parts_tied : (parts : List (LinePart (List ℕ))) → AreLeaves T parts → AreTested C parts → (cursor : BlockCursor) (s : S) (t : Q) → Ties B N cursor.begun s t
+    pub parts_tied : (parts : List (LinePart (List ℕ))) → AreLeaves T parts → (cursor : BlockCursor) (s : S) (t : Q) → Ties B N cursor.begun s t
         → BothAt B (step_parts m parts cursor s) (step_parts n parts cursor t)
     unfolding step_parts step_leaf step_guard step_block step_loop step_end step_region after_part open_region
-    parts_tied [] a c cursor s t h = (refl, k.base cursor.begun s t h)
-    parts_tied (Leaf text ∷ rest) a c cursor s t h =
-        then_tied rest (parts_tied rest a.1 c) (step_leaf m text cursor s) (step_leaf n text cursor t)
+    parts_tied [] a cursor s t h = (refl, k.base cursor.begun s t h)
+    parts_tied (Leaf text ∷ rest) a cursor s t h =
+        then_tied rest (parts_tied rest a.1) (step_leaf m text cursor s) (step_leaf n text cursor t)
         (refl, refl, after_met B (λ is_met s. leaf_if m is_met text s) (λ is_met t. leaf_if n is_met text t) (leaf_tied text a.0) cursor s t h)
-    parts_tied (Guard head ∷ rest) a c cursor s t h =
-        then_tied rest (parts_tied rest a c.1) (step_guard m head cursor s) (step_guard n head cursor t)
-        (after_met (Next B) (λ is_met s. guard_met m is_met head cursor s) (λ is_met t. guard_met n is_met head cursor t) (guard_tied head cursor c.0) cursor s t h)
-    parts_tied (Block opening ∷ rest) a c cursor s t h =
-        then_tied rest (parts_tied rest a.1 c.1) (step_block m opening cursor s) (step_block n opening cursor t)
-        (after_met (Next B) (λ is_met s. block_met m is_met opening cursor s) (λ is_met t. block_met n is_met opening cursor t) (block_tied opening cursor a.0 c.0) cursor s t h)
-    parts_tied (Loop head ∷ rest) a c cursor s t h =
-        then_tied rest (parts_tied rest a.1 c) (step_loop m head cursor s) (step_loop n head cursor t)
+    parts_tied (Guard head ∷ rest) a cursor s t h =
+        then_tied rest (parts_tied rest a) (step_guard m head cursor s) (step_guard n head cursor t)
+        (after_met (Next B) (λ is_met s. guard_met m is_met head cursor s) (λ is_met t. guard_met n is_met head cursor t) (guard_tied head cursor) cursor s t h)
+    parts_tied (Block opening ∷ rest) a cursor s t h =
+        then_tied rest (parts_tied rest a.1) (step_block m opening cursor s) (step_block n opening cursor t)
+        (after_met (Next B) (λ is_met s. block_met m is_met opening cursor s) (λ is_met t. block_met n is_met opening cursor t) (block_tied opening cursor a.0) cursor s t h)
+    parts_tied (Loop head ∷ rest) a cursor s t h =
+        then_tied rest (parts_tied rest a.1) (step_loop m head cursor s) (step_loop n head cursor t)
         (refl, refl, after_met B (λ is_met s. loop_if m is_met head s) (λ is_met t. loop_if n is_met head t) (loop_tied head a.0) cursor s t h)
-    parts_tied (End ∷ rest) a c cursor s t h =
-        then_tied rest (parts_tied rest a c) (step_end m cursor s) (step_end n cursor t)
+    parts_tied (End ∷ rest) a cursor s t h =
+        then_tied rest (parts_tied rest a) (step_end m cursor s) (step_end n cursor t)
         (refl, refl, end_tied (what_ends cursor.levels) s t (k.base cursor.begun s t h))
-    parts_tied (Region head ∷ rest) a c cursor s t h =
+    parts_tied (Region head ∷ rest) a cursor s t h =
         after_met (BothAt B) (λ is_met s. open_region m head cursor.levels (is_met, s)) (λ is_met t. open_region n head cursor.levels (is_met, t)) (opens_tied head cursor.levels) cursor s t h
 
-    pub from_tied : (text : X → List ℕ) (A : S → Q → Type 0) (x : X) → TiesLine A N B m n x (text x) → AreLeaves T (line_parts (text x)) → AreTested C (line_parts (text x))
+    pub from_tied : (text : X → List ℕ) (A : S → Q → Type 0) (x : X) → TiesLine A N B m n x (text x) → AreLeaves T (line_parts (text x))
         → (o : Option Opened) (l : Levels) (s : S) (t : Q) → A s t → BothAt B (step_from m text o x l s) (step_from n (λ t. t) o (text x) l t)
     unfolding step_from at_line
-    from_tied text A x i a c None l s t h =
-        parts_tied (line_parts (text x)) a c (at_line l) (begin_line m x l s) (begin_line n (text x) l t) (begin_tied A x (text x) i l s t h)
-    from_tied text A x i a c (Some o) l s t h = inside_tied A x (text x) i (is_ending o.ending (text x)) o l s t h
+    from_tied text A x i a None l s t h =
+        parts_tied (line_parts (text x)) a (at_line l) (begin_line m x l s) (begin_line n (text x) l t) (begin_tied A x (text x) i l s t h)
+    from_tied text A x i a (Some o) l s t h = inside_tied A x (text x) i (is_ending o.ending (text x)) o l s t h
 
-    pub step_tied : (text : X → List ℕ) (A : S → Q → Type 0) (x : X) → TiesLine A N B m n x (text x) → AreLeaves T (line_parts (text x)) → AreTested C (line_parts (text x))
+    pub step_tied : (text : X → List ℕ) (A : S → Q → Type 0) (x : X) → TiesLine A N B m n x (text x) → AreLeaves T (line_parts (text x))
         → (a : At S) (b : At Q) → BothAt A a b → BothAt B (step m text x a) (step n (λ t. t) (text x) b)
     unfolding step
-    step_tied text A x i leaves tested a b h =
+    step_tied text A x i leaves a b h =
         subst (λ (place : SourcePlace). BothAt B (step m text x a) (step_from n (λ t. t) place.region (text x) place.levels b.state)) h.0
-        (from_tied text A x i leaves tested a.place.region a.place.levels a.state b.state h.1)
+        (from_tied text A x i leaves a.place.region a.place.levels a.state b.state h.1)
 
 -- ---- lines
 
-module _ {S Q : Type 0} (T : List ℕ → Type 0) (C : Condition (List ℕ) → Type 0) (N F B : S → Q → Type 0) (m : Meaning (List ℕ) S) (n : Meaning (List ℕ) Q) (k : TiesParts T C N F B m n)
+module _ {S Q : Type 0} (T : List ℕ → Type 0) (N F B : S → Q → Type 0) (m : Meaning (List ℕ) S) (n : Meaning (List ℕ) Q) (k : TiesParts T N F B m n)
     (gives : (text : List ℕ) (s : S) (t : Q) → T text → F s t → B (m.gives text s) (n.gives text t)) (closes : (s : S) (t : Q) → B s t → B (m.closes_loop s) (n.closes_loop t))
-    (leaves : HasLeaves T) (tested : HasTests T C) (i : (line : List ℕ) → T line → TiesLine B N B m n line line) where
+    (leaves : HasLeaves T) (i : (line : List ℕ) → T line → TiesLine B N B m n line line) where
   pub lines_tied : (lines : List (List ℕ)) → AreSuch T lines → (a : At S) (b : At Q) → BothAt B a b → BothAt B (step_lines m (λ t. t) lines a) (step_lines n (λ t. t) lines b)
   unfolding step_lines
   lines_tied [] t a b h = h
   lines_tied (line ∷ lines) t a b h =
       lines_tied lines t.1 (step m (λ t. t) line a) (step n (λ t. t) line b)
-      (step_tied T C N F B m n k gives closes (λ t. t) B line (i line t.0) (leaves line t.0) (tested line t.0) a b h)
+      (step_tied T N F B m n k gives closes (λ t. t) B line (i line t.0) (leaves line t.0) a b h)
 
   pub run_tied : (lines : List (List ℕ)) → AreSuch T lines → (a : At S) (b : At Q) → BothAt B a b → BothAt B (run_lines m (λ t. t) lines a) (run_lines n (λ t. t) lines b)
   run_tied lines t a b h = rw (run_is_steps m (λ t. t) lines a, run_is_steps n (λ t. t) lines b) (lines_tied lines t a b h)

@@ -5,4 +5,3 @@ pub mod CountLemmas
 pub mod FreeLemmas
 pub mod GivenLemmas
 pub mod PlainLemmas
-pub mod AlikeLemmas

@@ -22,7 +22,7 @@ use Rattle.page_roff_effects.specs.machine.Effects.{in_front}
 use Rattle.page_roff_stack.specs.machine.Changes.{page_line}
 use Rattle.page_roff_effects.specs.States.{Memory, Given, says}
 use Rattle.page_roff_effects.specs.laws.Views.{State}
-use Rattle.page_roff_values.specs.machine.Views.{units_of_bytes}
+use Rattle.page_roff_values.specs.Values.{units_of}
 use Rattle.page_roff_effects.proofs.GivenLemmas.{is_front}
 use Rattle.page_roff_stack.specs.declared.next.Next.{Next}
 use Rattle.page_roff_stack.specs.declared.next.Next.TheVariants as things
@@ -59,7 +59,7 @@ outcome_step old new given eo e =
     let l = language_of old in
     next_law l (running_of [] old) (running_of given new) e
     ∙ ap (λ (before : List Given). rest_of l (running_of before new)) (sym (append-nil given))
-    ∙ rest_front (in_front given) l (is_front (units_of_bytes (output_of old)) given) (running_of [] new)
+    ∙ rest_front (in_front given) l (is_front (units_of (output_of old)) given) (running_of [] new)
     ∙ ap (λ (output : Output). over (in_front given) (rest_of (language (acting_effects output)) (running_of [] new))) (sym eo)
 
 pub outcome_end : (m : Machine) → next (language_of m) (running_of [] m) ≡ None → outcome_of m ≡ stands m

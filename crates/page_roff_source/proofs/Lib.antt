@@ -1,8 +1,6 @@
-pub mod AlikeTexts
 pub mod ArgumentTexts
 pub mod LinePartTexts
 pub mod BodyTexts
-pub mod ConditionTexts
 pub mod Cuts
 pub mod DefinitionTexts
 pub mod EffectTexts
@@ -10,7 +8,6 @@ pub mod HeadCuts
 pub mod LineCuts
 pub mod CountLemmas
 pub mod CutLemmas
-pub mod GivenLemmas
 pub mod LineLemmas
 pub mod NoteLatchLemmas
 pub mod RoffLineLemmas

@@ -22,8 +22,6 @@ use Rattle.page_roff_syntax.specs.Requests.{request_of}
 use Rattle.page_roff_syntax.specs.declared.requests.Request.{Request}
 use Rattle.page_roff_syntax.specs.declared.requests.Request.TheVariants as requests
 use Rattle.page_roff_blocks.proofs.KeepLemmas.{IsIfSome, IsLoopHead, IsOpening, AreLeaves, HasLeaves, HasLoopTexts}
-use Rattle.page_roff_blocks.proofs.SameLemmas.{IsTested, IsTestedOpening, AreTested, HasTests}
-use Rattle.page_roff_source.proofs.ConditionTexts.{IsTextCondition, conditional_texts}
 use Rattle.page_roff_source.proofs.Cuts.{CutsAt, start_cut, end_cut, line_cut}
 use Rattle.page_roff_source.proofs.LineCuts.{commented_cut, IsLineIfSome, guarded_line, conditional_line, IsLoopRead, loop_line, AreLinesIfSome, block_end_lines, control_rest}
 
@@ -32,8 +30,7 @@ IsRest rest = IsIfSome IsLine rest
 
 IsLeaf : LinePart (List ℕ) → Type 0
 IsLeaf (Leaf text) = IsLine text
-IsLeaf (Guard head) = IsTested IsTextCondition head.branch
-IsLeaf (Block opening) = IsOpening IsLine opening × IsTestedOpening IsTextCondition opening
+IsLeaf (Block opening) = IsOpening IsLine opening
 IsLeaf (Loop head) = IsLoopHead IsLine head
 IsLeaf _ = Unit {0}
 
@@ -48,15 +45,15 @@ rest_is None h = tt
 rest_is (Some remainder) h = h
 
 head_part_is : (line : List ℕ) (head : Head (List ℕ)) (opens : Bool) (remainder : Option (Placed (List ℕ))) → IsLine line
-    → IsTested IsTextCondition head.branch → IsLineIfSome remainder → IsPart line (head_line_part opens head) (rest_text remainder)
+    → IsLineIfSome remainder → IsPart line (head_line_part opens head) (rest_text remainder)
 unfolding IsLeaf
-head_part_is line head true remainder l t h = record { leaf = (tt, t); before = start_cut line l.utf8; line = rest_is remainder h }
-head_part_is line head false remainder l t h = record { leaf = t; before = start_cut line l.utf8; line = rest_is remainder h }
+head_part_is line head true remainder l h = record { leaf = tt; before = start_cut line l.utf8; line = rest_is remainder h }
+head_part_is line head false remainder l h = record { leaf = tt; before = start_cut line l.utf8; line = rest_is remainder h }
 
 loop_part_is : (line : List ℕ) (opens : Bool) (read : LoopRead (List ℕ)) → IsLine line → IsLoopRead read
     → IsPart line (loop_part_if opens read).line_part (loop_part_if opens read).rest
 unfolding IsLeaf
-loop_part_is line true read l h = record { leaf = ((h.condition, h.first), tt); before = start_cut line l.utf8; line = rest_is read.guarded.remainder h.remainder }
+loop_part_is line true read l h = record { leaf = (h.condition, h.first); before = start_cut line l.utf8; line = rest_is read.guarded.remainder h.remainder }
 loop_part_is line false read l h = record { leaf = (h.condition, rest_is read.guarded.remainder h.remainder); before = start_cut line l.utf8; line = tt }
 
 end_part_is : (line before : List ℕ) (rest : Option (List ℕ)) → IsLine line → IsLine before → CutsAt line (length before) → IsRest rest
@@ -80,15 +77,15 @@ unfolding IsLeaf
 keyword_part_is None line column rest rest_column h r = plain_part_is line h
 keyword_part_is (Some requests.If) line column rest rest_column h r =
     let read = conditional_of rest_column (raw_rest line rest_column) in
-    head_part_is line _ read.guarded.opens_block read.guarded.remainder h (conditional_texts rest_column (raw_rest line rest_column) r)
+    head_part_is line _ read.guarded.opens_block read.guarded.remainder h
     (conditional_line rest_column (raw_rest line rest_column) r)
 keyword_part_is (Some requests.IfElse) line column rest rest_column h r =
     let read = conditional_of rest_column (raw_rest line rest_column) in
-    head_part_is line _ read.guarded.opens_block read.guarded.remainder h (conditional_texts rest_column (raw_rest line rest_column) r)
+    head_part_is line _ read.guarded.opens_block read.guarded.remainder h
     (conditional_line rest_column (raw_rest line rest_column) r)
 keyword_part_is (Some requests.Else) line column rest rest_column h r =
     let guarded = guarded_of rest_column (raw_rest line rest_column) in
-    head_part_is line _ guarded.opens_block guarded.remainder h tt (guarded_line rest_column (raw_rest line rest_column) r)
+    head_part_is line _ guarded.opens_block guarded.remainder h (guarded_line rest_column (raw_rest line rest_column) r)
 keyword_part_is (Some requests.While) line column rest rest_column h r =
     let read = loop_of rest_column (raw_rest line rest_column) in
     loop_part_is line read.guarded.opens_block read h (loop_line rest_column (raw_rest line rest_column) r)
@@ -172,10 +169,9 @@ body_is (Some first) h = unless_is (loop_text 0 first) (loop_texts 0 first h)
 
 -- ---- all parts of a line
 
-opening_is : (opening : Opening (List ℕ)) → IsOpening IsLine opening × IsTestedOpening IsTextCondition opening
-    → IsOpening IsLine (whole_opening opening) × IsTestedOpening IsTextCondition (whole_opening opening)
+opening_is : (opening : Opening (List ℕ)) → IsOpening IsLine opening → IsOpening IsLine (whole_opening opening)
 opening_is (openings.Conditional head) h = h
-opening_is (openings.Loop head) h = ((h.0.0, body_is head.body h.0.1), tt)
+opening_is (openings.Loop head) h = (h.0, body_is head.body h.1)
 
 line_part_is : (line_part : LinePart (List ℕ)) → IsLeaf line_part → IsLeaf (whole_line_part line_part)
 unfolding IsLeaf
@@ -191,7 +187,7 @@ end_leaves false more h = h
 part_leaves : (line_part : LinePart (List ℕ)) (more : List (LinePart (List ℕ))) → IsLeaf line_part → AreLeaves IsLine more → AreLeaves IsLine (line_part ∷ more)
 unfolding IsLeaf
 part_leaves (Leaf text) more a h = (a, h)
-part_leaves (Block opening) more a h = (a.0, h)
+part_leaves (Block opening) more a h = (a, h)
 part_leaves (Loop head) more a h = (a, h)
 part_leaves _ more a h = h
 
@@ -207,28 +203,3 @@ parts_leaves (suc n) (Some line) h =
 pub line_leaves : HasLeaves IsLine
 unfolding line_parts
 line_leaves line h = parts_leaves (suc (length line)) (Some line) h
-
--- ---- the conditions of a line
-
-end_tested : (is_end : Bool) (more : List (LinePart (List ℕ))) → AreTested IsTextCondition more → AreTested IsTextCondition (ends_first is_end more)
-end_tested true more h = h
-end_tested false more h = h
-
-part_tested : (line_part : LinePart (List ℕ)) (more : List (LinePart (List ℕ))) → IsLeaf line_part → AreTested IsTextCondition more → AreTested IsTextCondition (line_part ∷ more)
-unfolding IsLeaf
-part_tested (Guard head) more a h = (a, h)
-part_tested (Block opening) more a h = (a.1, h)
-part_tested _ more a h = h
-
-parts_tested : (n : ℕ) (rest : Option (List ℕ)) → IsRest rest → AreTested IsTextCondition (parts n rest)
-unfolding part_of
-parts_tested zero rest h = tt
-parts_tested (suc n) None h = tt
-parts_tested (suc n) (Some line) h =
-    let is = written_is line h in
-    part_tested (part_of line).line_part _ (line_part_is (written_part line).line_part is.leaf)
-    (end_tested (part_of line).is_end (parts n (part_of line).rest) (parts_tested n (part_of line).rest is.line))
-
-pub line_tests : HasTests IsLine IsTextCondition
-unfolding line_parts
-line_tests line h = parts_tested (suc (length line)) (Some line) h

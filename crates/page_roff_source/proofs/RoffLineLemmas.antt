@@ -35,7 +35,7 @@ use Rattle.page_roff_source.specs.declared.roff_lines.Remaining.TheVariants as r
 use Rattle.page_roff_source.specs.machine.RoffLines.{edge_of, state_of, given_by, run_if, IsIdleAs, IsCounted, IsAtEdge, RunsOn}
 use Rattle.page_roff_source.proofs.CountLemmas.{taken_bound}
 use Rattle.page_roff_source.proofs.RoomLemmas.{done_room}
-use Rattle.page_roff_source.proofs.TextLemmas.{line_texts, runs_as, taken_is, taken_line}
+use Rattle.page_roff_source.proofs.TextLemmas.{line_texts, taken_is, taken_line}
 
 -- an edge by what leaves the page there
 abbrev edge_with : Output → At (Budgeted State) → ℕ → Option (List Given) → RoffEdge
@@ -153,7 +153,7 @@ pub begun : (old new : Machine) (source : ℕ) (line : SourceLine) → machine.i
 unfolding run_line
 begun old new source line idle b h l =
     let e = before_at old source line (idle_stands old idle) in
-    let outcome = b.outcome ∙ sym (ap (run_page (language_of old) (line.text ∷ [])) e) ∙ runs_as (edge_of old source remaining.Nothing) line h l in
+    let outcome = b.outcome ∙ sym (ap (run_page (language_of old) (line.text ∷ [])) e) ∙ runs_as (edge_of old source remaining.Nothing) line in
     ap (λ (o : Output). begun_with o (outcome_of new) (source + 1)) b.output
     ∙ ap (λ (a : At (Budgeted State)). begun_with (output_of old) a (source + 1)) outcome
 
@@ -163,7 +163,7 @@ gives_taken : (old new : Machine) (source : ℕ) (taken : TakenLine) (line : Sou
     → stands_after (takes taken ∷ []) new ≡ run_line (edge_of old source remaining.Nothing) line
 gives_taken old new source taken line idle t h l =
     let e = before_at old source line (idle_stands old idle) in
-    t.outcome ∙ sym (ap (run_page (language_of old) (line.text ∷ [])) e) ∙ runs_as (edge_of old source remaining.Nothing) line h l
+    t.outcome ∙ sym (ap (run_page (language_of old) (line.text ∷ [])) e) ∙ runs_as (edge_of old source remaining.Nothing) line
 
 gives_alone : (old new : Machine) (source : ℕ) (taken : TakenLine) (line : SourceLine) → machine.is_idle old ≡ true
     → Takes taken line.text line.number old new → HoldsTexts (edge_of old source remaining.Nothing).memory → IsLine line.text

@@ -1,11 +1,7 @@
 -- Each line that roff gives is one: helpers of proofs.
 use Rattle.std.proofs.Common.{◌≡◌, Bool, true, false, List, [], ◌∷◌, Option, Some, None, refl, subst}
 use Rattle.page_core_base.specs.Texts.{TakenLine, IsLine}
-use Rattle.std.proofs.lemmas.Str.{is_utf8-from_IsUtf8}
-use Rattle.page_core_base.specs.declared.page_settings.Output.{Output}
-use Rattle.page_roff_values.specs.machine.Texts.{MeasureAlike}
 use Rattle.page_roff_values.specs.Values.{units_of}
-use Rattle.page_roff_values.specs.machine.Views.{units_of_bytes}
 use Rattle.page_roff_blocks.specs.machine.Budgets.{language}
 use Rattle.page_roff_blocks.specs.machine.Languages.{run_page}
 use Rattle.page_roff_effects.specs.machine.Acting.{acting_effects}
@@ -13,7 +9,6 @@ use Rattle.page_roff_effects.specs.States.{Given, says, takes}
 use Rattle.page_roff_machine.specs.Giving.{next_line, after_line}
 use Rattle.page_roff_machine.specs.machine.Machines.{taken_if}
 use Rattle.page_roff_source.specs.machine.Texts.{HoldsTexts, AreGiven}
-use Rattle.page_roff_source.proofs.AlikeTexts.{page_alike}
 use Rattle.page_roff_source.proofs.EffectTexts.{HoldsState, page_texts}
 use Rattle.page_roff_source.specs.Runs.{RoffEdge, SourceLine}
 use Rattle.page_roff_source.specs.laws.Views.{given_of, line_taken, left_if}
@@ -25,17 +20,10 @@ unfolding run_line before_line AreGiven
 line_texts e line h t =
     page_texts (units_of e.output) (line.text ∷ []) (before_line e line) (t, tt) (record { memory = record { names = h.names; body = h.body }; out = tt })
 
--- what the code measures of a text is how wide it is
-bytes_alike : (output : Output) → MeasureAlike (units_of_bytes output) (units_of output)
-bytes_alike output text t = rw (is_utf8-from_IsUtf8 text t.utf8) refl
-
--- so the line runs as it does where nothing but texts is measured
-pub runs_as : (e : RoffEdge) (line : SourceLine) → HoldsTexts e.memory → IsLine line.text
-    → run_page (language (acting_effects e.output)) (line.text ∷ []) (before_line e line) ≡ run_line e line
-unfolding run_line before_line AreGiven
-runs_as e line h t =
-    page_alike (units_of_bytes e.output) (units_of e.output) (bytes_alike e.output) (line.text ∷ []) (before_line e line) (t, tt)
-    (record { memory = record { names = h.names; body = h.body }; out = tt })
+-- the line runs by what the code measures
+pub runs_as : (e : RoffEdge) (line : SourceLine) → run_page (language (acting_effects e.output)) (line.text ∷ []) (before_line e line) ≡ run_line e line
+unfolding run_line
+runs_as e line = refl
 
 after_is : (given : List Given) → AreGiven given → AreGiven (after_line given)
 unfolding AreGiven

@@ -12,8 +12,7 @@
 //! (`specs/Runs.antt`); a line takes at most 1,001 lines, with at most 1,000 interpolations for each. `machine_law`: the run by which the machine is
 //! proved (`specs/machine/Given.antt`) is that of the definitions.
 //! `texts_law`: where each line of a page is UTF-8 of at most 65,536 bytes without a control character but the tab, so is each line that roff gives of
-//! it, and each string, argument and line of a macro, whatever is defined, appended, cut or passed (`specs/machine/Texts.antt`). `alike_law`: where two
-//! widths agree on each text, a page is the same by both; so the code may measure any bytes, and the definition measures texts alone.
+//! it, and each string, argument and line of a macro, whatever is defined, appended, cut or passed (`specs/machine/Texts.antt`).
 #![tactic(auto)]
 
 mod counts;

@@ -1,12 +1,11 @@
 //! The law of texts.
 
-ghost use Rattle.std.specs.Prelude.{◌≡◌, ℕ, List};
+ghost use Rattle.std.specs.Prelude.{ℕ, List};
 ghost use Rattle.page_roff_blocks.specs.machine.Run.{At};
 ghost use Rattle.page_roff_effects.specs.machine.Effects.{effects};
 ghost use Rattle.page_roff_effects.specs.laws.Views.{State};
 ghost use Rattle.page_roff_blocks.specs.machine.Budgets.{Budgeted, language};
 ghost use Rattle.page_roff_blocks.specs.machine.Languages.{run_page};
-ghost use Rattle.page_roff_values.specs.machine.Texts.{MeasureAlike};
 ghost use Rattle.page_roff_source.specs.machine.Texts.{AreLines, HoldsTexts, AreGiven};
 
 /// Where each line of a page is UTF-8 of at most `LINE` bytes without a control character but the tab, so is each line that the page gives,
@@ -18,11 +17,4 @@ pub fn texts_law()
     ensures given { (units : List ℕ → ℕ) (lines : List (List ℕ)) (at : At (Budgeted State)) → AreLines lines
         → HoldsTexts at.state.rest.memory → AreGiven at.state.rest.out
         → AreGiven (run_page (language (effects units)) lines at).state.rest.out }
-{}
-
-/// Where two widths are the same for each text, a page of lines is the same by both.
-pub fn alike_law()
-    ensures { (units other : List ℕ → ℕ) → MeasureAlike units other → (lines : List (List ℕ)) (at : At (Budgeted State))
-        → AreLines lines → HoldsTexts at.state.rest.memory → AreGiven at.state.rest.out
-        → run_page (language (effects units)) lines at ≡ run_page (language (effects other)) lines at }
 {}

@@ -15,7 +15,7 @@ use Rattle.page_core_escapes.proofs.EscapeTexts.{escape_cuts}
 use Rattle.page_core_numbers.specs.Columns.{characters_columns, front_len, printed_front, printed_within}
 use Rattle.page_core_numbers.specs.machine.Fronts.{Left}
 use Rattle.page_core_numbers.proofs.ColumnLemmas.{front-character, front-escape}
-use Rattle.page_roff_values.specs.Values.{units_of}
+use Rattle.page_roff_values.specs.machine.Views.{units_of_text}
 
 -- an escape has a byte
 escape-some : (text : List ℕ) → 0 < length text → 0 < (escape_of false text).1
@@ -60,7 +60,7 @@ printed-same (suc n) (suc m) output (b ∷ bs) utf8 below above =
 
 -- the width of a text by that of another one, where the same is left of both
 pub units_alike : (output : Output) (text known rest : List ℕ) (columns known_columns units : ℕ) → IsUtf8 rest → Left output text columns rest
-    → Left output known known_columns rest → units ≡ units_of output known → (24 * known_columns ≤ units) × (units - 24 * known_columns + 24 * columns ≡ units_of output text)
+    → Left output known known_columns rest → units ≡ units_of_text output known → (24 * known_columns ≤ units) × (units - 24 * known_columns + 24 * columns ≡ units_of_text output text)
 units_alike output text known rest columns known_columns units utf8 l k e =
     let same = ap characters_columns (printed-same l.steps k.steps output rest utf8 l.enough k.enough) in
     (omega (arith, l.same, k.same, e, same), omega (arith, l.same, k.same, e, same))

@@ -1,4 +1,3 @@
-pub mod AlikeLemmas
 pub mod ArgumentLemmas
 pub mod CallLemmas
 pub mod CopiedLemmas

@@ -7,7 +7,7 @@ use Rattle.page_core_base.specs.Limits.{LINE}
 use Rattle.std.proofs.lemmas.List.Elements.{All-weaker, All-push}
 use Rattle.page_roff_values.specs.declared.known_widths.KnownWidth.{KnownWidth}
 use Rattle.page_roff_values.specs.machine.Measured.{AreMeasured, IsMeasured, text_of}
-use Rattle.page_roff_values.specs.Values.{units_of}
+use Rattle.page_roff_values.specs.machine.Views.{units_of_text}
 
 -- behind the texts there may come more
 measured_more : (texts more : List ℕ) (width : KnownWidth) → IsMeasured texts width → IsMeasured (texts ++ more) width
@@ -23,7 +23,7 @@ all_more texts more widths h = All-weaker (IsMeasured texts) (IsMeasured (texts 
 
 -- the text that is behind the others
 pub measured_last : (texts text : List ℕ) (width : KnownWidth) → width.start ≡ length texts → width.end ≡ length texts + length text → length text ≤ LINE
-    → IsUtf8 text → width.units ≤ 24000 * length text → width.units ≡ units_of width.output text → IsMeasured (texts ++ text) width
+    → IsUtf8 text → width.units ≤ 24000 * length text → width.units ≡ units_of_text width.output text → IsMeasured (texts ++ text) width
 measured_last texts text width s e short utf8 bound h =
     let n : width.end - width.start ≡ length text = omega arith in
     let whole : text_of (texts ++ text) width ≡ text = rw (n, drop_at texts text width.start (sym s)) (take_all (length text) text (omega arith)) in

@@ -9,12 +9,11 @@ use Rattle.page_core_base.specs.Messages.{Message}
 use Rattle.page_core_base.specs.declared.page_settings.Output.{Output}
 use Rattle.page_core_numbers.specs.Columns.{columns_of}
 use Rattle.page_roff_values.specs.declared.expansions.Nested.TheInside.{Inside}
-use Rattle.page_roff_values.specs.Values.{Surroundings, TextSoFar, LaidText, nothing, join, seq, put, inside, outside, leaves, column_of, width, value}
+use Rattle.page_roff_values.specs.Values.{Surroundings, TextSoFar, LaidText, nothing, join, seq, put, inside, outside, leaves, column_of, width, value, units_of}
 use Rattle.page_roff_values.specs.machine.Expansions.{NestedSpot, nested_of}
 use Rattle.page_roff_values.specs.laws.Views.{Goes}
 use Rattle.page_roff_values.specs.machine.Rest.{rest}
 use Rattle.page_roff_values.specs.machine.Steps.{going_inside, going_outside}
-use Rattle.page_roff_values.specs.machine.Views.{units_of_bytes}
 use Rattle.page_roff_values.proofs.FollowLemmas.{value_follows}
 use Rattle.page_roff_values.proofs.GoingLemmas.{begins}
 use Rattle.page_roff_values.proofs.LayLemmas.{seq_more, goes_on}
@@ -39,14 +38,14 @@ goes_back env room text s t going is kept =
     let all : t.spot ≡ (value env room text (inside s.spot)).edge = is ∙ ap (λ (a : LaidText). a.edge) (sym (begins env room text (inside s.spot) going)) in
     outside_is s t (ap (λ (a : TextSoFar). a.around) all ∙ (value_follows env room text (inside s.spot)).around) kept
 
-pub units_known : (output : Output) (text : List ℕ) → IsUtf8 text → 24 * columns_of output text ≡ units_of_bytes output text
+pub units_known : (output : Output) (text : List ℕ) → IsUtf8 text → 24 * columns_of output text ≡ units_of output text
 units_known output text h = rw (is_utf8-from_IsUtf8 text h) refl
 
 no_true : (b : Bool) → ¬ (b ≡ true) → b ≡ false
 no_true true h = absurd (h refl)
 no_true false h = refl
 
-pub units_none : (output : Output) (text : List ℕ) → ¬ (IsUtf8 text) → 0 ≡ units_of_bytes output text
+pub units_none : (output : Output) (text : List ℕ) → ¬ (IsUtf8 text) → 0 ≡ units_of output text
 units_none output text h = rw (no_true (is_utf8 text) (λ e. h (IsUtf8-from_is_utf8 text e))) refl
 
 -- the messages of the text came, and the line goes on with the width

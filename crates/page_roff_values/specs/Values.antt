@@ -1,7 +1,7 @@
 -- The value of a text: the finished line, its messages, and how many interpolations were made. Source: roff(7), "Escape sequences".
 use Rattle.std.specs.Fmt.{decimal, signed_decimal}
 use Rattle.std.specs.Prelude.{ℕ, List, [], ◌∷◌, ◌==◌, if◌then◌else◌, ◌++◌, drop, zero, suc, ◌-◌, nat_le, ◌&&◌, Option, Some, None, Bool, length, codes, ℤ, pos, unwrap_or, ◌+◌, true, false, nat_lt, get_or, take, ◌*◌}
-use Rattle.std.specs.Str.{bytes_eq}
+use Rattle.std.specs.Str.{bytes_eq, is_utf8}
 use Rattle.page_core_base.specs.Limits.{LINE, EXPAND, name_of}
 use Rattle.page_core_base.specs.Messages.{Message, message_about}
 use Rattle.page_core_base.specs.declared.limits.Limit.TheVariants as limits
@@ -211,9 +211,9 @@ outside s t = record { around = s.around; text = s.text; count = t.count; ended 
 abbrev pub leaves : TextSoFar → LaidText → LaidText
 leaves s a = record { notes = a.notes; edge = outside s a.edge }
 
--- basic units, 24 a column
+-- basic units, 24 a column; bytes that are not UTF-8 have none
 abbrev pub units_of : Output → List ℕ → ℕ
-units_of output text = 24 * columns_of output text
+units_of output text = if is_utf8 text then 24 * columns_of output text else 0
 
 -- The text is expanded by itself, and the line goes on with its width.
 unfoldable pub width : (List ℕ → ℕ) → (TextSoFar → LaidText) → TextSoFar → LaidText

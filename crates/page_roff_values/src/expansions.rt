@@ -10,7 +10,8 @@ ghost use Rattle.page_roff_values.specs.laws.Views as laying_laws;
 ghost use Rattle.page_roff_values.specs.machine.Expansions.{outermost, over};
 ghost use Rattle.page_roff_values.specs.machine.Steps.{going_inside, going_outside};
 ghost use Rattle.page_roff_parts.specs.machine.Views.{call_of};
-ghost use Rattle.page_roff_values.specs.machine.Views.{surroundings_of, units_of_bytes};
+ghost use Rattle.page_roff_values.specs.machine.Views.{surroundings_of};
+ghost use Rattle.page_roff_values.specs.Values.{units_of};
 
 use crate::endings::kept;
 use crate::environments::Environment;
@@ -274,7 +275,7 @@ impl Nested {
 
     // The width of the text that is finished. That of a long text is remembered.
     fn units(&mut self, output: Output) -> u32
-        ensures units { result ≡ units_of_bytes output self.old.spot.text }
+        ensures units { result ≡ units_of output self.old.spot.text }
         ensures same { self.new ≡ self.old }
     {
         let text = &self.text[self.start..];
@@ -310,7 +311,7 @@ impl Nested {
         requires going { self.old.spot.ended ≡ false }
         requires fits { length self.old.before + LINE * (room + 1) ≤ LINE * NEST }
         ensures goes { Goes O.left out.old
-            (laying.width (units_of_bytes env.now.output) (laying.value (surroundings_of env.now) room text.now) self.old.spot)
+            (laying.width (units_of env.now.output) (laying.value (surroundings_of env.now) room text.now) self.old.spot)
             out.new (laying.nothing self.new.spot) }
         ensures before { self.new.before ≡ self.old.before }
     {

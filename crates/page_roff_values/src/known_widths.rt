@@ -5,8 +5,8 @@ ghost use Rattle.std.specs.Prelude.{◌≡◌, ◌+◌, ◌-◌, ◌*◌, ◌<�
 ghost use Rattle.page_core_base.specs.declared.limits.TheConstants.{LINE};
 ghost use Rattle.page_roff_values.specs.declared.known_widths.TheConstants.{TEXTS, WIDTHS};
 ghost use Rattle.page_roff_values.specs.machine.Measured.{AreMeasured, IsMeasured};
-ghost use Rattle.page_roff_values.specs.machine.Views.{units_of_bytes};
 ghost use Rattle.page_roff_values.specs.Values.{units_of};
+ghost use Rattle.page_roff_values.specs.machine.Views.{units_of_text};
 
 use crate::fronts::{common_len, read_front};
 use page_core_base::{Output, append};
@@ -77,7 +77,7 @@ impl KnownWidths {
 
     /// The width of a text, if it is remembered.
     pub(crate) fn find(&self, text: &[u8], output: Output) -> Option<u32>
-        ensures { IfSome result (λ units. units ≡ units_of_bytes output text.now) }
+        ensures { IfSome result (λ units. units ≡ units_of output text.now) }
     {
         if text.len() < LONG {
             return None;
@@ -95,7 +95,7 @@ impl KnownWidths {
     fn units_by(&self, width: KnownWidth, common: usize, text: &str) -> Option<u32>
         requires known { IsMeasured self.now.texts.items width }
         requires line { length text.now ≤ LINE }
-        ensures { IfSome result (λ units. units ≡ units_of width.output text.now) }
+        ensures { IfSome result (λ units. units ≡ units_of_text width.output text.now) }
     {
         let front = read_front(text, common, width.output)?;
         let known = read_front(self.text_of(width), front.rest.len(), width.output)?;
@@ -108,7 +108,7 @@ impl KnownWidths {
     // The width of a text by that of one that is remembered and ends as it does.
     fn find_alike(&self, text: &str, output: Output) -> Option<u32>
         requires { length text.now ≤ LINE }
-        ensures { IfSome result (λ units. units ≡ units_of output text.now) }
+        ensures { IfSome result (λ units. units ≡ units_of_text output text.now) }
     {
         let mut tried = 0;
         for width in &self.widths {
@@ -144,7 +144,7 @@ impl KnownWidths {
     // Remembers the width of a long text.
     fn add(&mut self, text: &str, output: Output, units: u32)
         requires line { length text.now ≤ LINE }
-        requires units { units ≡ units_of output text.now }
+        requires units { units ≡ units_of_text output text.now }
         requires bound { units ≤ 24000 * length text.now }
     {
         self.make_room(text.len());
@@ -162,7 +162,7 @@ impl KnownWidths {
     /// Measures a text. A long one is remembered, unless it ends as one that is: that one serves for all that end so.
     pub(crate) fn measure(&mut self, text: &str, output: Output) -> u32
         requires { length text.now ≤ LINE }
-        ensures { result ≡ units_of output text.now }
+        ensures { result ≡ units_of_text output text.now }
     {
         if text.len() < LONG {
             return 24 * columns(text.as_bytes(), output);

@@ -13,8 +13,7 @@ use Rattle.page_roff_blocks.specs.Parts.{line_parts, keyword_in, keyword_of}
 use Rattle.page_roff_syntax.specs.Arguments.{arguments}
 use Rattle.page_roff_syntax.specs.LineForms.{has_word}
 use Rattle.page_roff_syntax.specs.Requests.{request_of}
-use Rattle.page_roff_values.specs.Values.{TextSoFar, LaidText, expanded}
-use Rattle.page_roff_values.specs.machine.Views.{units_of_bytes}
+use Rattle.page_roff_values.specs.Values.{TextSoFar, LaidText, expanded, units_of}
 use Rattle.page_roff_blocks.specs.machine.Budgets.{Effects}
 use Rattle.page_roff_blocks.specs.machine.Languages.{Kind, arguments_of}
 use Rattle.page_roff_values.specs.Answers.{Answer}
@@ -38,13 +37,13 @@ pub record ActingSetting : Type 0 where
 
 -- the code measures any bytes
 abbrev pub measured : ActingSetting → TextSetting
-measured setting = record { units = units_of_bytes setting.output; arguments = setting.arguments }
+measured setting = record { units = units_of setting.output; arguments = setting.arguments }
 
 abbrev pub acting_setting : Output → Kind → ActingSetting
 acting_setting output kind = record { output = output; arguments = arguments_of kind }
 
 abbrev pub acting_effects : Output → Effects State
-acting_effects output = effects (units_of_bytes output)
+acting_effects output = effects (units_of output)
 
 -- What decides, what is remembered, the line as far as it is expanded, and what was taken last: a line, and a call.
 pub record Acting : Type 0 where

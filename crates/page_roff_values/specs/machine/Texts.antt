@@ -21,7 +21,3 @@ AreArgumentTexts (Some arguments) = AreTexts arguments
 pub record AreLines (env : Surroundings) : Type 0 where
   pub strings : (name value : List ℕ) → string_of name env.definitions ≡ Some value → IsText value
   pub arguments : AreArgumentTexts env.arguments
-
--- two widths that are the same for each text
-abbrev pub MeasureAlike : (List ℕ → ℕ) → (List ℕ → ℕ) → Type 0
-MeasureAlike units other = (text : List ℕ) → IsText text → units text ≡ other text

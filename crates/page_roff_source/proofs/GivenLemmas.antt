@@ -1,1 +1,0 @@
--- What is given up to the next line, and after it: helpers of proofs.
