@@ -1,5 +1,5 @@
 -- The macros of man(7) keep the laws of macro sets: proofs, which the set's laws cite. Source: man(7).
-use Rattle.std.proofs.Common.{◌≡◌, ℕ, ◌+◌, ◌*◌, ◌≤◌, Bool, true, false, ◌&&◌, List, [], ◌∷◌, ◌++◌, length, drop, refl, arith, Option, None, Some, option_map, if◌then◌else◌}
+use Rattle.std.proofs.Common.{◌≡◌, ℕ, ◌+◌, ◌*◌, ◌≤◌, Bool, true, false, ◌&&◌, List, [], ◌∷◌, length, drop, refl, arith, Option, None, Some, option_map, if◌then◌else◌}
 use Rattle.page_core_base.specs.Texts.{TakenLine}
 use Rattle.page_core_base.specs.declared.cells.Font.{Font}
 use Rattle.page_core_base.specs.declared.cells.Font.TheVariants as fonts
@@ -37,7 +37,7 @@ use Rattle.page_sets.specs.declared.man_rows.Words.TheVariants as words
 use Rattle.page_sets.specs.declared.man_rows.Last.{Last}
 use Rattle.page_sets.specs.declared.man_rows.Last.TheVariants as lasts
 use Rattle.page_sets.specs.declared.man_rows.ManRow.{ManRow}
-use Rattle.page_sets.specs.Man.{alternating_words, argument_word, closer, effect_kind, has_words, kind_events, last_events, leaf, line_scope, lone_events, macro_events, man_events, missing_quote, named_events, one_word, opener, option_words, plain_words, quote_at, quote_events, reference_words, refused_events, row_events, row_of, section_words, words_events}
+use Rattle.page_sets.specs.Man.{alternating_words, argument_word, closer, effect_kind, has_words, kind_events, last_events, leaf, line_scope, lone_events, macro_events, man_events, missing_quote, named_events, one_word, opener, option_words, plain_words, quote_at, quote_events, reference_words, refused_events, row_of, section_words, words_events}
 use Rattle.page_sets.specs.machine.LineLaws.{HasOwnSlices, HoldsAt, IsLawful, line_lawful, slices_hold}
 
 -- ---- slices

@@ -1,5 +1,5 @@
 -- The macros of mdoc(7) keep the laws of macro sets: proofs, which the set's laws cite. Source: mdoc(7).
-use Rattle.std.proofs.Common.{◌≡◌, ℕ, ◌+◌, ◌*◌, ◌≤◌, Bool, true, false, ◌&&◌, not, List, [], ◌∷◌, ◌++◌, length, refl, arith, inl, inr, Option, None, Some, if◌then◌else◌}
+use Rattle.std.proofs.Common.{ℕ, ◌+◌, ◌*◌, ◌≤◌, Bool, true, false, ◌&&◌, not, List, [], ◌∷◌, ◌++◌, length, refl, arith, inl, inr, Option, None, Some}
 use Rattle.std.proofs.lemmas.Bool.{cases_Bool}
 use Rattle.page_core_base.specs.Texts.{TakenLine}
 use Rattle.page_core_base.specs.declared.note_kinds.NoteKind.{NoteKind}
@@ -21,7 +21,7 @@ use Rattle.page_sets_mdoc_words.specs.Sentences.{sentence_events}
 use Rattle.page_sets_mdoc_words.proofs.WordPrintLemmas.{printed_prints, include_prints, sentence_prints, framed_prints}
 use Rattle.page_sets_mdoc_blocks.specs.Fronts.{line_arguments, request_front, has_real_word, is_standard, given_names, block_front, has_phrase}
 use Rattle.page_sets_mdoc_blocks.proofs.FrontLemmas.{front_most, front_prints, request_front_prints, words_more}
-use Rattle.page_sets.specs.Mdoc.{control_events, field_font, include_words, words_events, refused_events, macro_events, request_events, named_events, mdoc_events}
+use Rattle.page_sets.specs.Mdoc.{field_font, include_words, words_events, refused_events, macro_events, request_events, named_events, mdoc_events}
 use Rattle.page_sets.specs.machine.LineLaws.{HasOwnSlices, HoldsAt, IsLawful, line_lawful, slices_hold}
 use Rattle.page_sets.specs.machine.RestLaws.{head_prints, phrase_prints}
 
