@@ -1,5 +1,5 @@
 -- The forest of all lines of a page gives what its lines give one after another: helpers of proofs.
-use Rattle.std.proofs.Common.{◌≡◌, ℕ, ◌+◌, Bool, true, false, cond, List, [], ◌∷◌, ◌++◌, length, map, Option, Some, None, option_map, refl, sym, ap, ◌∙◌, append_assoc, append-nil, arith}
+use Rattle.std.proofs.Common.{◌≡◌, ℕ, ◌+◌, Bool, true, false, cond, List, [], ◌∷◌, ◌++◌, length, map, Option, Some, None, option_map, refl, sym, ap, ◌∙◌, append_assoc, append-nil, subst, arith}
 use Rattle.page_roff_syntax.specs.Regions.{is_ending, Opened}
 use Rattle.page_roff_blocks.specs.Forest.{Levels, SourcePlace}
 use Rattle.page_roff_blocks.specs.machine.Run.{Meaning, At, after_head, each_line}
@@ -99,12 +99,14 @@ each_stands e (x ∷ xs) left g out =
     let same : (front ++ line_given e x) ++ lines_given f xs ≡ out ++ (map says x.notes ++ (line_given e x ++ lines_given f xs)) =
     append_assoc front (line_given e x) (lines_given f xs)
     ∙ append_assoc out (map says x.notes) (line_given e x ++ lines_given f xs) in
-    rw (one_line e x left g out, sym same) h
+    subst (λ (l : List Given). StandsAt (lines_done f xs) l (each e (x ∷ xs) (at e.place left g e.taken e.memory out))) same
+    (subst (λ (a : At (Budgeted State)). StandsAt (lines_done f xs) ((front ++ line_given e x) ++ lines_given f xs) (each e xs a)) (sym (one_line e x left g out)) h)
 
 all_stands : (e : RoffEdge) (lines : List SourceLine) → StandsAt (lines_done e lines) (lines_given e lines) (machine.run_all e lines)
 unfolding machine.run_all run_page_lines
 all_stands e lines =
-    rw (forest_is_each (λ line. line.text) head_of (meaning_at (language (effects (units_of e.output))) CALLS page) lines (machine.before_lines e))
+    subst (λ (a : At (Budgeted State)). StandsAt (lines_done e lines) (lines_given e lines) a)
+    (sym (forest_is_each (λ line. line.text) head_of (meaning_at (language (effects (units_of e.output))) CALLS page) lines (machine.before_lines e)))
     (each_stands e lines 0 false [])
 
 -- the definitions run as the machine does

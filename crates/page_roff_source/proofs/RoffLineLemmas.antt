@@ -35,7 +35,7 @@ use Rattle.page_roff_source.specs.declared.roff_lines.Remaining.TheVariants as r
 use Rattle.page_roff_source.specs.machine.RoffLines.{edge_of, state_of, given_by, run_if, IsIdleAs, IsCounted, IsAtEdge, RunsOn}
 use Rattle.page_roff_source.proofs.CountLemmas.{taken_bound}
 use Rattle.page_roff_source.proofs.RoomLemmas.{done_room}
-use Rattle.page_roff_source.proofs.TextLemmas.{line_texts, taken_is, taken_line}
+use Rattle.page_roff_source.proofs.TextLemmas.{line_texts, runs_as, taken_is, taken_line}
 
 -- an edge by what leaves the page there
 abbrev edge_with : Output → At (Budgeted State) → ℕ → Option (List Given) → RoffEdge
