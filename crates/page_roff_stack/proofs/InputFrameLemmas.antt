@@ -271,16 +271,10 @@ begins_outside None parts lines b e p some none = rw p (begins_lines lines b som
 begins_outside (Some o) parts lines b e p some none = absurd (cc)
 
 less_some : (start end n : ℕ) → n ≡ end - start → nat_lt start end ≡ true → (n == 0) ≡ false
-less_some start end n k t =
-    let p : start < end = grind (arith, nat_tests) in
-    let q : 0 < n = omega arith in
-    grind (arith, nat_tests)
+less_some start end n k t = grind (arith, nat_tests)
 
 less_none : (start end n : ℕ) → n ≡ end - start → nat_lt start end ≡ false → (n == 0) ≡ true
-less_none start end n k t =
-    let p : end ≤ start = grind (arith, nat_tests) in
-    let q : n ≡ 0 = omega arith in
-    grind (arith, nat_tests)
+less_none start end n k t = grind (arith, nat_tests)
 
 pub not_in_region : (a : InputFrame) (all : List ℕ) → is_some a.region ≡ true → false ≡ begins_line (frame_of a all)
 not_in_region a all e = begins_region a.region (frame_of a all).parts (frame_of a all).lines e
@@ -319,10 +313,7 @@ line_over None (part ∷ more) false e none some = refl
 line_over (Some o) parts b e none some = absurd (cc)
 
 lines_none : (a : InputFrame) (all : List ℕ) → a.lines.end ≤ a.lines.start → IsSpanIn a.lines all → (frame_of a all).lines ≡ []
-lines_none a all p h =
-    let k = span_len a.lines all h in
-    let n : length (span_text a.lines all) ≡ 0 = omega arith in
-    no_lines (span_text a.lines all) (grind (arith, nat_tests))
+lines_none a all p h = grind (arith, nat_tests, span_len a.lines all h, no_lines (span_text a.lines all))
 
 pub lines_here : (a : InputFrame) (all : List ℕ) → a.lines.start < a.lines.end → IsSpanIn a.lines all → false ≡ is_over (frame_of a all)
 lines_here a all p h =
