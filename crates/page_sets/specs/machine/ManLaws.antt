@@ -46,6 +46,84 @@ use Rattle.page_core_base.specs.Messages.{row_in}
 use Rattle.page_core_base.specs.declared.places.Place.{Place}
 use Rattle.page_sets.specs.Man.{quiet, table, macro_row, request_row, row_of, opener, closer, leaf, effect_kind, line_scope, one_word, plain_words, alternating_words, option_words, section_words, reference_words, words_events, has_words, quote_at, missing_quote, quote_events, kind_events, last_events, macro_events, lone_events, row_events, named_events, control_events, man_events}
 
+-- ---- words of a macro
+
+-- how many of its events are no words of its arguments
+marks_weight : Words → ℕ
+marks_weight words.Reference = 2
+marks_weight _ = 0
+
+-- they are parts of the line, in their order, and so few
+record AreWordsOf (line : List ℕ) (from most : ℕ) (events : List (Event (List ℕ))) : Type 0 where
+  slices : AreSlices line events
+  order : AreInOrder from events
+  few : length events ≤ most
+
+none_given : (line : List ℕ) (from most : ℕ) → AreWordsOf line from most []
+none_given line from most = record { slices = tt; order = tt; few = omega arith }
+
+one_given : (line : List ℕ) (number : ℕ) (font : Option Font) (before : Join) (from : ℕ) (arguments : List (Argument (List ℕ)))
+    → ArgumentsFrom line from arguments → AreWordsOf line from (length arguments) (one_word number font before arguments)
+one_given line number font before from [] h = none_given line from 0
+one_given line number font before from (argument ∷ arguments) h = record { slices = (h.1, tt); order = (h.0, tt); few = omega arith }
+
+plain_given : (line : List ℕ) (number from : ℕ) (arguments : List (Argument (List ℕ)))
+    → ArgumentsFrom line from arguments → AreWordsOf line from (length arguments) (plain_words number arguments)
+plain_given line number from [] h = none_given line from 0
+plain_given line number from (argument ∷ arguments) h =
+    let w = plain_given line number (argument.column + length argument.text) arguments h.2 in
+    record { slices = (h.1, w.slices); order = (h.0, w.order); few = omega (arith, w.few) }
+
+alternating_given : (line : List ℕ) (number : ℕ) (font other : Font) (before : Join) (from : ℕ) (arguments : List (Argument (List ℕ)))
+    → ArgumentsFrom line from arguments → AreWordsOf line from (length arguments) (alternating_words number font other before arguments)
+alternating_given line number font other before from [] h = none_given line from 0
+alternating_given line number font other before from (argument ∷ arguments) h =
+    let w = alternating_given line number other font Glued (argument.column + length argument.text) arguments h.2 in
+    record { slices = (h.1, w.slices); order = (h.0, w.order); few = omega (arith, w.few) }
+
+option_given : (line : List ℕ) (number from : ℕ) (arguments : List (Argument (List ℕ)))
+    → ArgumentsFrom line from arguments → AreWordsOf line from (length arguments) (option_words number arguments)
+option_given line number from [] h = none_given line from 0
+option_given line number from (key ∷ arguments) h =
+    let w = one_given line number (Some fonts.I) Apart (key.column + length key.text) arguments h.2 in
+    record { slices = (h.1, w.slices); order = (h.0, w.order); few = omega (arith, w.few) }
+
+section_given : (line : List ℕ) (place : Place) (from : ℕ) (arguments : List (Argument (List ℕ)))
+    → ArgumentsFrom line from arguments → AreWordsOf line from (2 + length arguments) (section_words place arguments)
+section_given line place from [] h = none_given line from 2
+section_given line place from (section ∷ arguments) h =
+    let w = one_given line place.line None Glued (section.column + length section.text) arguments h.2 in
+    record { slices = (tt, (h.1, (tt, w.slices))); order = (tt, (h.0, (tt, w.order))); few = omega (arith, w.few) }
+
+reference_given : (line : List ℕ) (place : Place) (from : ℕ) (arguments : List (Argument (List ℕ)))
+    → ArgumentsFrom line from arguments → AreWordsOf line from (2 + length arguments) (reference_words place arguments)
+reference_given line place from [] h = none_given line from 2
+reference_given line place from (name ∷ arguments) h =
+    let w = section_given line place (name.column + length name.text) arguments h.2 in
+    record { slices = (h.1, w.slices); order = (h.0, w.order); few = omega (arith, w.few) }
+
+further_given : (line : List ℕ) (number from : ℕ) (arguments : List (Argument (List ℕ)))
+    → ArgumentsFrom line from arguments → AreWordsOf line from (length arguments) (plain_words number (drop 1 arguments))
+further_given line number from [] h = none_given line from 0
+further_given line number from (first ∷ arguments) h =
+    let w = plain_given line number from arguments (earlier line from (first.column + length first.text) arguments (omega (arith, h.0)) h.2) in
+    record { slices = w.slices; order = w.order; few = omega (arith, w.few) }
+
+given : (line : List ℕ) (from : ℕ) (arguments : List (Argument (List ℕ))) {events : List (Event (List ℕ))}
+    → AreWordsOf line from (length arguments) events → AreWordsOf line from (0 + length arguments) events
+given line from arguments w = record { slices = w.slices; order = w.order; few = omega (arith, w.few) }
+
+words_given : (line : List ℕ) (place : Place) (these : Words) (from : ℕ) (arguments : List (Argument (List ℕ)))
+    → ArgumentsFrom line from arguments → AreWordsOf line from (marks_weight these + length arguments) (words_events place these arguments)
+unfolding marks_weight
+words_given line place words.Nothing from arguments h = none_given line from (0 + length arguments)
+words_given line place words.Plain from arguments h = given line from arguments (plain_given line place.line from arguments h)
+words_given line place (words.Alternating font other) from arguments h =
+    given line from arguments (alternating_given line place.line font other Apart from arguments h)
+words_given line place words.Option from arguments h = given line from arguments (option_given line place.line from arguments h)
+words_given line place words.Reference from arguments h = reference_given line place from arguments h
+words_given line place words.Further from arguments h = given line from arguments (further_given line place.line from arguments h)
+
 -- ---- slices
 
 break_slices : (line : List ℕ) (place : Place) (breaks : Bool) → AreSlices line (if breaks then event_at place (kinds.Close closers.Line) ∷ [] else [])
@@ -111,49 +189,6 @@ effect_slices line (effects.Opens scope) start h = opens_slices line scope start
 effect_slices line (effects.Closes scope) start h = closes_slices line scope start
 effect_slices line (effects.Sets change) start h = sets_slices line change start h
 
-one_slices : (line : List ℕ) (number : ℕ) (font : Option Font) (before : Join) (from : ℕ) (arguments : List (Argument (List ℕ)))
-    → ArgumentsFrom line from arguments → AreSlices line (one_word number font before arguments)
-one_slices line number font before from [] h = tt
-one_slices line number font before from (argument ∷ arguments) h = (h.1, tt)
-
-plain_slices : (line : List ℕ) (number from : ℕ) (arguments : List (Argument (List ℕ))) → ArgumentsFrom line from arguments → AreSlices line (plain_words number arguments)
-plain_slices line number from [] h = tt
-plain_slices line number from (argument ∷ arguments) h = (h.1, plain_slices line number (argument.column + length argument.text) arguments h.2)
-
-alternating_slices : (line : List ℕ) (number : ℕ) (font other : Font) (before : Join) (from : ℕ) (arguments : List (Argument (List ℕ)))
-    → ArgumentsFrom line from arguments → AreSlices line (alternating_words number font other before arguments)
-alternating_slices line number font other before from [] h = tt
-alternating_slices line number font other before from (argument ∷ arguments) h = (h.1, alternating_slices line number other font _ _ arguments h.2)
-
-option_slices : (line : List ℕ) (number from : ℕ) (arguments : List (Argument (List ℕ)))
-    → ArgumentsFrom line from arguments → AreSlices line (option_words number arguments)
-option_slices line number from [] h = tt
-option_slices line number from (key ∷ arguments) h = (h.1, one_slices line number _ _ _ arguments h.2)
-
-section_slices : (line : List ℕ) (place : Place) (from : ℕ) (arguments : List (Argument (List ℕ)))
-    → ArgumentsFrom line from arguments → AreSlices line (section_words place arguments)
-section_slices line place from [] h = tt
-section_slices line place from (section ∷ arguments) h = (tt, (h.1, (tt, one_slices line place.line _ _ _ arguments h.2)))
-
-reference_slices : (line : List ℕ) (place : Place) (from : ℕ) (arguments : List (Argument (List ℕ)))
-    → ArgumentsFrom line from arguments → AreSlices line (reference_words place arguments)
-reference_slices line place from [] h = tt
-reference_slices line place from (name ∷ arguments) h = (h.1, section_slices line place _ arguments h.2)
-
-further_slices : (line : List ℕ) (number from : ℕ) (arguments : List (Argument (List ℕ)))
-    → ArgumentsFrom line from arguments → AreSlices line (plain_words number (drop 1 arguments))
-further_slices line number from [] h = tt
-further_slices line number from (first ∷ arguments) h = plain_slices line number (first.column + length first.text) arguments h.2
-
-words_slices : (line : List ℕ) (place : Place) (these : Words) (from : ℕ) (arguments : List (Argument (List ℕ)))
-    → ArgumentsFrom line from arguments → AreSlices line (words_events place these arguments)
-words_slices line place words.Nothing from arguments h = tt
-words_slices line place words.Plain from arguments h = plain_slices line place.line from arguments h
-words_slices line place (words.Alternating font other) from arguments h = alternating_slices line place.line font other Apart from arguments h
-words_slices line place words.Option from arguments h = option_slices line place.line from arguments h
-words_slices line place words.Reference from arguments h = reference_slices line place from arguments h
-words_slices line place words.Further from arguments h = further_slices line place.line from arguments h
-
 macro_slices : (line : List ℕ) (place : Place) (start : ℕ) (row : ManRow) → start ≤ length line
     → AreSlices line (macro_events place row (drop start line) (arguments_after start line))
 macro_slices line place start row within =
@@ -162,7 +197,7 @@ macro_slices line place start row within =
     (AreSlices-append line _ _ (quote_slices line place.line (missing_quote row.quotes arguments))
     (AreSlices-append line _ _ (kind_slices line place _ (effect_slices line row.effect start within))
     (AreSlices-append line _ _ (scope_slices line place (line_scope row.effect))
-    (AreSlices-append line _ _ (words_slices line place row.words (start + 1) arguments (all_after line start))
+    (AreSlices-append line _ _ (words_given line place row.words (start + 1) arguments (all_after line start)).slices
     (AreSlices-append line _ _ (last_slices line place row.last) (tt, tt))))))
 
 lone_slices : (line : List ℕ) (alone : Alone) (place : Place) (name : List ℕ) (events : List (Event (List ℕ))) → IsPart line name
@@ -228,50 +263,6 @@ last_no_word : (place : Place) (last : Last) (filled : Bool) → HasNoWord (last
 last_no_word place lasts.Nothing filled = (refl, tt)
 last_no_word place _ filled = (refl, (refl, tt))
 
-one_order : (line : List ℕ) (number : ℕ) (font : Option Font) (before : Join) (from : ℕ) (arguments : List (Argument (List ℕ)))
-    → ArgumentsFrom line from arguments → AreInOrder from (one_word number font before arguments)
-one_order line number font before from [] h = tt
-one_order line number font before from (argument ∷ arguments) h = (h.0, tt)
-
-plain_order : (line : List ℕ) (number from : ℕ) (arguments : List (Argument (List ℕ))) → ArgumentsFrom line from arguments → AreInOrder from (plain_words number arguments)
-plain_order line number from [] h = tt
-plain_order line number from (argument ∷ arguments) h = (h.0, plain_order line number (argument.column + length argument.text) arguments h.2)
-
-alternating_order : (line : List ℕ) (number : ℕ) (font other : Font) (before : Join) (from : ℕ) (arguments : List (Argument (List ℕ)))
-    → ArgumentsFrom line from arguments → AreInOrder from (alternating_words number font other before arguments)
-alternating_order line number font other before from [] h = tt
-alternating_order line number font other before from (argument ∷ arguments) h = (h.0, alternating_order line number other font _ _ arguments h.2)
-
-option_order : (line : List ℕ) (number from : ℕ) (arguments : List (Argument (List ℕ)))
-    → ArgumentsFrom line from arguments → AreInOrder from (option_words number arguments)
-option_order line number from [] h = tt
-option_order line number from (key ∷ arguments) h = (h.0, one_order line number _ _ _ arguments h.2)
-
-section_order : (line : List ℕ) (place : Place) (from : ℕ) (arguments : List (Argument (List ℕ)))
-    → ArgumentsFrom line from arguments → AreInOrder from (section_words place arguments)
-section_order line place from [] h = tt
-section_order line place from (section ∷ arguments) h = (tt, (h.0, (tt, one_order line place.line _ _ _ arguments h.2)))
-
-reference_order : (line : List ℕ) (place : Place) (from : ℕ) (arguments : List (Argument (List ℕ)))
-    → ArgumentsFrom line from arguments → AreInOrder from (reference_words place arguments)
-reference_order line place from [] h = tt
-reference_order line place from (name ∷ arguments) h = (h.0, section_order line place _ arguments h.2)
-
-further_order : (line : List ℕ) (number from : ℕ) (arguments : List (Argument (List ℕ)))
-    → ArgumentsFrom line from arguments → AreInOrder from (plain_words number (drop 1 arguments))
-further_order line number from [] h = tt
-further_order line number from (first ∷ arguments) h =
-    plain_order line number from arguments (earlier line from (first.column + length first.text) arguments (omega (arith, h.0)) h.2)
-
-words_order : (line : List ℕ) (place : Place) (these : Words) (from : ℕ) (arguments : List (Argument (List ℕ)))
-    → ArgumentsFrom line from arguments → AreInOrder from (words_events place these arguments)
-words_order line place words.Nothing from arguments h = tt
-words_order line place words.Plain from arguments h = plain_order line place.line from arguments h
-words_order line place (words.Alternating font other) from arguments h = alternating_order line place.line font other Apart from arguments h
-words_order line place words.Option from arguments h = option_order line place.line from arguments h
-words_order line place words.Reference from arguments h = reference_order line place from arguments h
-words_order line place words.Further from arguments h = further_order line place.line from arguments h
-
 macro_order : (line : List ℕ) (place : Place) (start : ℕ) (row : ManRow) → AreInOrder 0 (macro_events place row (drop start line) (arguments_after start line))
 macro_order line place start row =
     let arguments = arguments_after start line in
@@ -279,7 +270,7 @@ macro_order line place start row =
     (order_after 0 _ _ (quote_no_word place.line (missing_quote row.quotes arguments))
     (order_after 0 _ _ (effect_no_word place row.effect (drop start line) arguments)
     (order_after 0 _ _ (scope_no_word place (line_scope row.effect))
-    (order_before 0 _ _ (words_order line place row.words 0 arguments (earlier line 0 (start + 1) arguments (omega arith) (all_after line start)))
+    (order_before 0 _ _ (words_given line place row.words 0 arguments (earlier line 0 (start + 1) arguments (omega arith) (all_after line start))).order
     (last_no_word place row.last (has_words row.words && has_arguments (drop start line)))))))
 
 lone_order : (alone : Alone) (place : Place) (name : List ℕ) (events : List (Event (List ℕ))) → AreInOrder 0 events → AreInOrder 0 (lone_events alone place name events)
@@ -333,10 +324,6 @@ scope_weight : Option LineOpener → ℕ
 scope_weight None = 0
 scope_weight (Some opener) = 1
 
-marks_weight : Words → ℕ
-marks_weight words.Reference = 2
-marks_weight _ = 0
-
 last_weight : Last → ℕ
 last_weight lasts.Nothing = 0
 last_weight _ = 1
@@ -381,54 +368,16 @@ unfolding last_weight
 few_last place lasts.Nothing = omega arith
 few_last place _ = omega arith
 
-few_one : (number : ℕ) (font : Option Font) (before : Join) (arguments : List (Argument (List ℕ))) → length (one_word number font before arguments) ≤ length arguments
-few_one number font before [] = omega arith
-few_one number font before (argument ∷ arguments) = omega arith
-
-few_plain : (number : ℕ) (arguments : List (Argument (List ℕ))) → length (plain_words number arguments) ≤ length arguments
-few_plain number [] = omega arith
-few_plain number (argument ∷ arguments) = let f = few_plain number arguments in omega (arith, f)
-
-few_alternating : (number : ℕ) (font other : Font) (before : Join) (arguments : List (Argument (List ℕ)))
-    → length (alternating_words number font other before arguments) ≤ length arguments
-few_alternating number font other before [] = omega arith
-few_alternating number font other before (argument ∷ arguments) = let f = few_alternating number other font Glued arguments in omega (arith, f)
-
-few_option : (number : ℕ) (arguments : List (Argument (List ℕ))) → length (option_words number arguments) ≤ length arguments
-few_option number [] = omega arith
-few_option number (key ∷ arguments) = let f = few_one number (Some fonts.I) Apart arguments in omega (arith, f)
-
-few_section : (place : Place) (arguments : List (Argument (List ℕ))) → length (section_words place arguments) ≤ 2 + length arguments
-few_section place [] = omega arith
-few_section place (section ∷ arguments) = let f = few_one place.line None Glued arguments in omega (arith, f)
-
-few_reference : (place : Place) (arguments : List (Argument (List ℕ))) → length (reference_words place arguments) ≤ 2 + length arguments
-few_reference place [] = omega arith
-few_reference place (name ∷ arguments) = let f = few_section place arguments in omega (arith, f)
-
-few_further : (number : ℕ) (arguments : List (Argument (List ℕ))) → length (plain_words number (drop 1 arguments)) ≤ length arguments
-few_further number [] = omega arith
-few_further number (first ∷ arguments) = let f = few_plain number arguments in omega (arith, f)
-
-few_words : (place : Place) (these : Words) (arguments : List (Argument (List ℕ)))
-    → length (words_events place these arguments) ≤ marks_weight these + length arguments
-unfolding marks_weight
-few_words place words.Nothing arguments = omega arith
-few_words place words.Plain arguments = let f = few_plain place.line arguments in omega (arith, f)
-few_words place (words.Alternating font other) arguments = let f = few_alternating place.line font other Apart arguments in omega (arith, f)
-few_words place words.Option arguments = let f = few_option place.line arguments in omega (arith, f)
-few_words place words.Reference arguments = let f = few_reference place arguments in omega (arith, f)
-few_words place words.Further arguments = let f = few_further place.line arguments in omega (arith, f)
-
-few_macro : (place : Place) (row : ManRow) (rest : List ℕ) (arguments : List (Argument (List ℕ)))
-    → length (macro_events place row rest arguments) ≤ weight row + length arguments + 1
+few_macro : (line : List ℕ) (place : Place) (row : ManRow) (start : ℕ)
+    → length (macro_events place row (drop start line) (arguments_after start line)) ≤ weight row + length (arguments_after start line) + 1
 unfolding weight
-few_macro place row rest arguments =
+few_macro line place row start =
+    let arguments = arguments_after start line in
     let a = few_break place row.breaks in
     let b = few_quote place.line row.quotes arguments in
-    let c = few_effect place row.effect rest arguments in
+    let c = few_effect place row.effect (drop start line) arguments in
     let d = few_scope place (line_scope row.effect) in
-    let e = few_words place row.words arguments in
+    let e = (words_given line place row.words (start + 1) arguments (all_after line start)).few in
     let f = few_last place row.last in
     simp length-append (omega (arith, a, b, c, d, e, f))
 
@@ -496,7 +445,7 @@ few_named line (Some row) h e =
     let b = named_bytes line h in
     let w = light_weight row (light_row (name_of line) row e) in
     let f = few_after text start in
-    let m = few_macro (name_place line) row (drop start text) (arguments_after start text) in
+    let m = few_macro text (name_place line) row start in
     few_row (name_place line) (name_of line) (drop start text) (arguments_after start text) row
     (2 * length text + 2) (omega arith) (omega (arith, b.0, b.1, w, f, m))
 

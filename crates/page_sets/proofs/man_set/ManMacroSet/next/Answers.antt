@@ -6,22 +6,17 @@ use Rattle.page_sets_lines.proofs.NthLemmas.{nth_kept, nth_none, nth_some, nth_s
 use Rattle.page_sets.specs.Man.{man_events}
 use Rattle.page_sets.proofs.man_set.ManMacroSet.next.Goals as goal
 
-pub returns-in-Some-clause-place : goal.returns-in-Some-clause-place
-returns-in-Some-clause-place c =
+pub returns-in-Some : goal.returns-in-Some
+returns-in-Some c =
     let events = man_events (line_view c.args.line) in
     let n = c.args.place.now in
     let came = c.give_events.ensures (nth n events) [] (nth_start n events _ _ c.new-nth.ensures) in
     let is = nth_kept n events _ _ c.event.result came c.event.ensures ∙ ap kept_view c.in-Some.is in
     let w = nth_within n events (event_view c.in-Some.event) is in
-    omega (arith, w)
-
-pub returns-in-Some-clause-events : goal.returns-in-Some-clause-events
-returns-in-Some-clause-events c =
-    let events = man_events (line_view c.args.line) in
-    let n = c.args.place.now in
-    let came = c.give_events.ensures (nth n events) [] (nth_start n events _ _ c.new-nth.ensures) in
-    let is = nth_kept n events _ _ c.event.result came c.event.ensures ∙ ap kept_view c.in-Some.is in
-    nth_some n events (event_view c.in-Some.event) is
+    record {
+      place = omega (arith, w);
+      events = nth_some n events (event_view c.in-Some.event) is;
+    }
 
 pub returns-in-None-clause-events : goal.returns-in-None-clause-events
 returns-in-None-clause-events c =
