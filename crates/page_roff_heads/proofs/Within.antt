@@ -1,32 +1,21 @@
 -- Where the rest of a control line begins: helpers of proofs.
-use Rattle.std.proofs.Common.{◌≡◌, ℕ, ◌+◌, ◌-◌, ◌≤◌, ◌==◌, Bool, List, [], ◌∷◌, length, drop, arith, inl, inr, length-drop}
-use Rattle.std.specs.List.{prefix_len}
+use Rattle.std.proofs.Common.{◌≡◌, ℕ, ◌+◌, ◌-◌, ◌≤◌, List, [], ◌∷◌, length, drop, arith, inl, inr, length-drop}
 use Rattle.std.proofs.lemmas.Bool.{cases_Bool}
+use Rattle.std.proofs.lemmas.Bool.Decides.{nat_tests}
+use Rattle.std.proofs.lemmas.List.Sums.{prefix_len-le-length}
 use Rattle.page_roff_syntax.specs.declared.line_forms.LineForm.TheVariants.{Control}
-use Rattle.page_roff_syntax.specs.LineForms.{has_word, begins_comment, without_comment, is_control, is_name, is_white, name_start, name_len, control_line, uncommented_form, form_of}
-
-prefix_within : (p : ℕ → Bool) (xs : List ℕ) → prefix_len p xs ≤ length xs
-prefix_within p [] = omega arith
-prefix_within p (x ∷ xs) = let l = prefix_within p xs in elim (cases_Bool (p x)) [ inl t ↦ rw t (omega (arith, l)) | inr t ↦ rw t (omega arith) ]
+use Rattle.page_roff_syntax.specs.LineForms.{has_word, without_comment, is_control, is_name, is_white, name_start, name_len, control_line, uncommented_form, form_of}
 
 uncommented_within : (line : List ℕ) → length (without_comment line) ≤ length line
 uncommented_within [] = omega arith
 uncommented_within (x ∷ []) = omega arith
-uncommented_within (x ∷ y ∷ ys) =
-    elim (cases_Bool (x == 92)) [
-      | inl t ↦
-          elim (cases_Bool (begins_comment y)) [
-            | inl s ↦ rw (t, s) (omega arith)
-            | inr s ↦ let l = uncommented_within ys in rw (t, s) (omega (arith, l))
-          ]
-      | inr t ↦ let l = uncommented_within (y ∷ ys) in rw t (omega (arith, l))
-    ]
+uncommented_within (x ∷ y ∷ ys) = grind (arith, nat_tests, uncommented_within ys, uncommented_within (y ∷ ys))
 
 rest_at : (bytes name rest : List ℕ) (column rest_column : ℕ) → control_line bytes ≡ Control name column rest rest_column → (2 ≤ rest_column) × (rest_column ≤ length bytes + 2)
 rest_at bytes name rest column rest_column e =
     let n : 2 + name_start bytes + name_len bytes ≡ rest_column = cc in
-    let a = prefix_within is_white bytes in
-    let b = prefix_within is_name (drop (name_start bytes) bytes) in
+    let a = prefix_len-le-length is_white bytes in
+    let b = prefix_len-le-length is_name (drop (name_start bytes) bytes) in
     let l = length-drop (name_start bytes) bytes in
     (omega (arith, n), omega (arith, n, a, b, l))
 
