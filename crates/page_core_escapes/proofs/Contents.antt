@@ -1,17 +1,15 @@
 -- The length of an argument's content doesn't hang on the number of steps, where there are enough of them.
-use Rattle.std.proofs.Common.{◌≡◌, ℕ, zero, suc, ◌+◌, ◌<◌, ◌≤◌, Bool, ◌&&◌, cond, eqb, nat_eq, nat_le, List, [], ◌∷◌, length, take, drop, Option, Some, None, option_map, refl, sym, ap, ap₂, ◌∙◌, arith, inl, inr, length-drop}
+use Rattle.std.proofs.Common.{◌≡◌, ℕ, zero, suc, ◌+◌, ◌<◌, ◌≤◌, Bool, cond, eqb, nat_eq, nat_le, List, [], ◌∷◌, length, take, drop, Option, Some, None, option_map, refl, sym, ap, ap₂, ◌∙◌, arith, inl, inr, length-drop}
 use Rattle.std.specs.Option.{option_and_then}
 use Rattle.std.specs.List.{starts_with}
 use Rattle.std.specs.Str.{continuation_len}
-use Rattle.std.proofs.lemmas.Bool.{cases_Bool, cond-true, cond-false, and_parts, leb-true}
-use Rattle.std.proofs.lemmas.Bool.Decides.{Decides-eqb}
-use Rattle.std.proofs.lemmas.List.{length-append}
-use Rattle.std.proofs.lemmas.Slice.Eq.{starts_is}
+use Rattle.std.proofs.lemmas.Bool.{cases_Bool, cond-true, cond-false, leb-true}
+use Rattle.std.proofs.lemmas.Bool.Decides.{nat_tests}
 use Rattle.page_core_escapes.specs.declared.letters.Shape.{Shape}
 use Rattle.page_core_escapes.specs.declared.letters.Shape.TheVariants.{Alone, Glyph, Name, Size, Quoted}
 use Rattle.page_core_escapes.specs.declared.extents.Extent.{Extent}
 use Rattle.page_core_escapes.specs.declared.extents.Extent.TheVariants.{Whole, QuotedFrom}
-use Rattle.page_core_escapes.specs.Lengths.{shape_of, after_sign, pair, character_len, written_len, name_len, number_len, sign_len, number_extent, extent_by, extent_of, quoted_len, extent_len, escape_len_by, content_len_within, content_len, escape_len}
+use Rattle.page_core_escapes.specs.Lengths.{shape_of, after_sign, character_len, written_len, name_len, sign_len, number_extent, extent_by, extent_of, quoted_len, extent_len, escape_len_by, content_len_within, content_len, escape_len}
 use Rattle.page_core_escapes.proofs.Options.{and_then-same}
 
 -- ---- a character takes bytes, and no more than there are
@@ -31,15 +29,7 @@ character_len-fits (b ∷ bs) m e =
 module _ (pairs : Bool) where
   -- a pair of quotes, too
   pub written_len-fits : (t : List ℕ) (m : ℕ) → written_len pairs t ≡ Some m → (0 < m) × (m ≤ length t)
-  written_len-fits t m e =
-      elim (cases_Bool (pairs && starts_with nat_eq t pair)) [
-        | inl quotes ↦
-            let is : Some 2 ≡ Some m = sym (cond-true _ _ _ quotes) ∙ e in
-            let same : 2 ≡ m = cc in
-            let all = ap length ((starts_is Decides-eqb t pair _ refl).0 (and_parts pairs (starts_with nat_eq t pair) quotes).1) in
-            (omega arith, omega (arith, length-append pair (drop 2 t)))
-        | inr other ↦ character_len-fits t m (sym (cond-false _ _ _ other) ∙ e)
-      ]
+  written_len-fits t m e = grind (arith, nat_tests)
 
   -- ---- an escape takes bytes
 
@@ -53,11 +43,7 @@ module _ (pairs : Bool) where
 
   number_extent-some : (before : ℕ) (t : List ℕ) (n : ℕ) → 0 < before → number_extent pairs before t ≡ Some (Whole n) → 0 < n
   number_extent-some before [] n some e = cc
-  number_extent-some before (b ∷ bs) n some e =
-      elim (cases_Bool (eqb b 0x27)) [
-        | inl quote ↦ let is : Some (QuotedFrom before) ≡ Some (Whole n) = sym (cond-true _ _ _ quote) ∙ e in cc
-        | inr other ↦ whole_from before (number_len pairs (b ∷ bs)) n some (sym (cond-false _ _ _ other) ∙ e)
-      ]
+  number_extent-some before (b ∷ bs) n some e = grind (arith, nat_tests)
 
   extent_by-some : (s : Shape) (key : ℕ) (rest : List ℕ) (n : ℕ) → extent_by pairs s key rest ≡ Some (Whole n) → 0 < n
   extent_by-some Alone key rest n e = whole_after 1 (written_len pairs (key ∷ rest)) n (omega arith) e

@@ -4,7 +4,7 @@ use Rattle.std.specs.Str.{continuation_len, bytes_eq}
 use Rattle.std.specs.Prelude.{Some, option_map, option_and_then, codes, if◌then◌else◌}
 use Rattle.std.proofs.Math.Dec.{leb-zero}
 use Rattle.std.proofs.lemmas.Bool.{cases_Bool, cond-true}
-use Rattle.page_core_escapes.specs.Meanings.{escape_of, Face, Meaning, face, face_of, is_one_of, letter_meaning, meaning_by, meaning_of, roman, italic, bold, bold_italic, former, unknown}
+use Rattle.page_core_escapes.specs.Meanings.{escape_of, bare_name, Face, Meaning, face, face_of, is_one_of, letter_meaning, meaning_by, meaning_of, roman, italic, bold, bold_italic, former, unknown}
 use Rattle.page_core_escapes.specs.declared.letters.Shape.TheVariants.{Alone}
 use Rattle.page_core_escapes.specs.declared.letters.LetterKind.{LetterKind}
 use Rattle.page_core_escapes.specs.declared.letters.Letter.{Letter}
@@ -46,11 +46,6 @@ code_escape pairs rest = rw (code_name pairs rest) refl
 
 pub code_font : (text : List ℕ) → 5 ≤ length text → get_or text 0 0 ≡ 92 → get_or text 1 0 ≡ 102 → get_or text 2 0 ≡ 40 → get_or text 3 0 ≡ 67
     → get_or text 4 0 ≡ 87 → ShortFont text roman 5
-code_font [] h a b c d e = absurd (omega (arith, h))
-code_font (x ∷ []) h a b c d e = absurd (omega (arith, h))
-code_font (x ∷ y ∷ []) h a b c d e = absurd (omega (arith, h))
-code_font (x ∷ y ∷ z ∷ []) h a b c d e = absurd (omega (arith, h))
-code_font (x ∷ y ∷ z ∷ u ∷ []) h a b c d e = absurd (omega (arith, h))
 code_font (x ∷ y ∷ z ∷ u ∷ v ∷ rest) h a b c d e =
     let first : x ≡ 92 = a in
     let second : y ≡ 102 = b in
@@ -58,6 +53,7 @@ code_font (x ∷ y ∷ z ∷ u ∷ v ∷ rest) h a b c d e =
     let fourth : u ≡ 67 = d in
     let fifth : v ≡ 87 = e in
     record { backslash = a; escape = record { not_empty = omega arith; within = h; escape = λ pairs. rw (first, second, third, fourth, fifth) (code_escape pairs rest) } }
+code_font _ h a b c d e = absurd (omega (arith, h))
 
 -- an escape of a letter alone, whose row has this kind
 alone_escape : (letter : ℕ) (kind : LetterKind) → letter_of letter ≡ record { shape = Alone; kind = kind } → continuation_len letter ≡ 0 → (34 == letter) ≡ false
@@ -76,38 +72,10 @@ short_alone letter kind row ascii other (x ∷ y ∷ rest) h a b =
     let second : y ≡ letter = b in
     record { not_empty = omega arith; within = h; escape = λ pairs. rw (first, second) (alone_escape letter kind row ascii other pairs rest) }
 
--- the letters
-pub roman_letter : FontLetter 82 roman
-unfolding face_of
-roman_letter = record { named = refl; bare = refl; alone = λ pairs rest. written_alone pairs 82 rest refl refl }
-
-pub first_digit : FontLetter 49 roman
-unfolding face_of
-first_digit = record { named = refl; bare = refl; alone = λ pairs rest. written_alone pairs 49 rest refl refl }
-
-pub italic_letter : FontLetter 73 italic
-unfolding face_of
-italic_letter = record { named = refl; bare = refl; alone = λ pairs rest. written_alone pairs 73 rest refl refl }
-
-pub second_digit : FontLetter 50 italic
-unfolding face_of
-second_digit = record { named = refl; bare = refl; alone = λ pairs rest. written_alone pairs 50 rest refl refl }
-
-pub bold_letter : FontLetter 66 bold
-unfolding face_of
-bold_letter = record { named = refl; bare = refl; alone = λ pairs rest. written_alone pairs 66 rest refl refl }
-
-pub third_digit : FontLetter 51 bold
-unfolding face_of
-third_digit = record { named = refl; bare = refl; alone = λ pairs rest. written_alone pairs 51 rest refl refl }
-
-pub fourth_digit : FontLetter 52 bold_italic
-unfolding face_of
-fourth_digit = record { named = refl; bare = refl; alone = λ pairs rest. written_alone pairs 52 rest refl refl }
-
-pub former_letter : FontLetter 80 former
-unfolding face_of
-former_letter = record { named = refl; bare = refl; alone = λ pairs rest. written_alone pairs 80 rest refl refl }
+-- a letter or a digit that names a font
+pub font_letter : (letter : ℕ) → bare_name (letter ∷ []) ≡ letter ∷ [] → continuation_len letter ≡ 0 → (34 == letter) ≡ false
+    → ((pairs : Bool) (rest : List ℕ) → name_len pairs (letter ∷ rest) ≡ written_len pairs (letter ∷ rest)) → FontLetter letter (face_of (letter ∷ []))
+font_letter letter bare ascii other alone = record { named = refl; bare = bare; alone = λ pairs rest. alone pairs rest ∙ written_alone pairs letter rest ascii other }
 
 -- ---- names of several letters
 

@@ -1,7 +1,7 @@
 -- What is known of an escape's letter by what follows it.
 use Rattle.std.proofs.Common.{◌≡◌, ℕ, ◌<◌, ◌≤◌, Bool, true, false, eqb, nat_lt, List, [], ◌∷◌, None, find, option_map, unwrap_or, sym, ap, ◌∙◌, refl, inl, inr, arith}
 use Rattle.std.specs.List.{list_all}
-use Rattle.std.proofs.lemmas.Bool.{cases_Bool, cases_lt, and_parts, cond-true, cond-false}
+use Rattle.std.proofs.lemmas.Bool.{cases_lt, and_parts, cond-false}
 use Rattle.std.proofs.lemmas.Bool.Decides.{nat_tests}
 use Rattle.page_core_escapes.specs.declared.letters.Shape.{Shape}
 use Rattle.page_core_escapes.specs.declared.letters.Shape.TheVariants.{Alone, Size}
@@ -49,13 +49,7 @@ pub record Follows (s : Shape) (rest : List ℕ) : Type 0 where
   pub size : shape_before rest s ≡ Size → begins_size (after_sign rest) ≡ true
 
 pub follows : (s : Shape) (rest : List ℕ) → Follows s rest
-follows Size rest =
-    elim (cases_Bool (begins_size (after_sign rest))) [
-      | inl size ↦ record { same = λ e. cond-true _ _ _ size; size = λ e. size }
-      | inr none ↦
-          let is : shape_before rest Size ≡ Alone = cond-false _ _ _ none in
-          record { same = λ e. let alone : true ≡ false = ap is_alone (sym is) ∙ e in cc; size = λ e. let alone : Alone ≡ Size = sym is ∙ e in cc }
-    ]
+follows Size rest = grind (arith, nat_tests)
 follows _ rest = record { same = λ e. refl; size = λ e. cc }
 
 -- the letter of an escape of a shape

@@ -1,7 +1,8 @@
 -- The tokens of a text, one by one.
-use Rattle.std.proofs.Common.{◌≡◌, ℕ, zero, suc, ◌-◌, ◌<◌, ◌≤◌, ◌==◌, ◌&&◌, Bool, true, false, List, [], ◌∷◌, length, take, drop, if◌then◌else◌, refl, ap, ◌∙◌, arith, inl, inr, length-drop}
+use Rattle.std.proofs.Common.{◌≡◌, ℕ, zero, suc, ◌-◌, ◌<◌, ◌≤◌, ◌&&◌, Bool, true, false, List, [], ◌∷◌, length, take, drop, if◌then◌else◌, refl, ap, ◌∙◌, arith, inl, inr, length-drop}
 use Rattle.std.specs.List.{prefix_len}
 use Rattle.std.proofs.lemmas.Bool.{cases_Bool}
+use Rattle.std.proofs.lemmas.Bool.Decides.{nat_tests}
 use Rattle.std.proofs.lemmas.List.{length-take}
 use Rattle.page_core_escapes.specs.Meanings.{escape_of}
 use Rattle.page_core_escapes.specs.Tokens.{TextToken, begins_escape, begins_quote, begins_white, is_space, is_white, prints_itself, token_at, token_bytes, token_len, tokens_len, tokens_within, tokens_of}
@@ -79,11 +80,7 @@ word_some (b ∷ bs) h = omega arith
 
 pub word_token : (quoted : Bool) (b : ℕ) (bs : List ℕ) → is_white b ≡ false → is_space (token_at quoted (b ∷ bs)) ≡ false
 unfolding token_at
-word_token quoted b bs t =
-    elim (cases_Bool (b == 92)) [
-      | inl e ↦ rw (t, e) refl
-      | inr e ↦ elim (cases_Bool (quoted && b == 34)) [ inl q ↦ rw (t, e, q) refl | inr q ↦ rw (t, e, q) refl ]
-    ]
+word_token quoted b bs t = grind (arith, nat_tests)
 
 pub space_token : (quoted : Bool) (b : ℕ) (bs : List ℕ) → is_white b ≡ true → is_space (token_at quoted (b ∷ bs)) ≡ true
 unfolding token_at

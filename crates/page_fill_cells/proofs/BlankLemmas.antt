@@ -12,11 +12,7 @@ before-blank cell (next ∷ cells) = elim (cases_Bool (is_blank cell)) [ inl t �
 
 pub blank-append : (front back : List Cell) → is_blank_row (row_of 0 (front ++ back)) ≡ (is_blank_row (row_of 0 front) && is_blank_row (row_of 0 back))
 blank-append [] back = refl
-blank-append (cell ∷ front) back =
-    let all = before-blank cell (trimmed (front ++ back)) in
-    let some = before-blank cell (trimmed front) in
-    let both = blank-append front back in
-    elim (cases_Bool (is_blank cell)) [ inl t ↦ rw (all, some, both, t) refl | inr f ↦ rw (all, some, both, f) refl ]
+blank-append (cell ∷ front) back = grind (arith, nat_tests, blank-append front back, before-blank cell (trimmed (front ++ back)), before-blank cell (trimmed front))
 
 -- the first cells of a blank row are blank
 pub part-blank : (cells : List Cell) (n : ℕ) → is_blank_row (row_of 0 cells) ≡ true → is_blank_row (row_of 0 (take n cells)) ≡ true

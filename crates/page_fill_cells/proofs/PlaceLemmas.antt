@@ -223,6 +223,9 @@ in-blank (b ∷ bytes) (f ∷ fonts) same = before-blank (cell_of f b) (trimmed 
 -- ---- the places of characters, which are put anew as slices of vectors
 
 -- what a slice of a vector gave back
+abbrev pub back : {A : Type 0} (new old : List A) (n : ℕ) → List A
+back new old n = take n (new ++ drop (length new) old)
+
 pub given-back : {A : Type 0} (new old : List A) (n : ℕ) → length new ≡ n → take n (new ++ drop (length new) old) ≡ new
 given-back new old n len = take_at new (drop (length new) old) n len
 
@@ -250,6 +253,11 @@ all-held bytes fonts self held view = sym (in-length bytes fonts (held.1 ∙ sym
 pub slices : (bytes b : List ℕ) (fonts f : List Font) (self : List Cell) → AreHeld bytes fonts → cells_in bytes fonts ≡ self → b ≡ bytes → f ≡ fonts
     → (length b ≡ length self) × (length f ≡ length b)
 slices bytes b fonts f self held view is own = (ap length is ∙ all-held bytes fonts self held view, ap length own ∙ (held.1 ∙ (sym held.0 ∙ sym (ap length is))))
+
+-- the first cells are those of the first bytes
+pub front-row : (bytes b : List ℕ) (fonts f : List Font) (self : List Cell) (n : ℕ) → cells_in bytes fonts ≡ self → b ≡ bytes → f ≡ fonts
+    → cells_in (take n b) (take n f) ≡ take n self
+front-row bytes b fonts f self n view is own = rw (is, own) (sym (in-take n bytes fonts) ∙ ap (take n) view)
 
 -- what the vectors then have, and the cells of that
 pub record ArePut (bytes : List ℕ) (fonts : List Font) (self : List Cell) (start : ℕ) (text : List ℕ) (own : List Font) : Type 0 where

@@ -20,12 +20,20 @@ use Rattle.page_roff_stack.specs.declared.source_kinds.SourceKind.{SourceKind}
 use Rattle.page_roff_stack.specs.declared.source_kinds.SourceKind.TheVariants as sources
 use Rattle.page_roff_stack.specs.declared.spans.Span.{Span}
 use Rattle.page_roff_values.specs.Values.{lines_in}
-use Rattle.page_roff_stack.specs.machine.Ahead.{IsAfter}
+use Rattle.page_roff_stack.specs.machine.Ahead.{IsAfter, IsAfterIn}
 use Rattle.page_roff_stack.specs.machine.Changes.{past, in_region, next_line, first_line_parts, begins_next, begins_line, ends_with, is_over, HasPart, IfEnters, AreShort, IsBounded}
 use Rattle.page_roff_stack.specs.machine.Held.{span_text, only_line, AreLinesOf, IsSpanIn, IsFirstLine}
 use Rattle.page_roff_stack.specs.machine.InputFrames.{frame_of, IsHeld}
 use Rattle.page_roff_stack.specs.machine.Views.{parts_view, IsNextLine}
 use Rattle.page_roff_stack.proofs.LineLemmas.{span_len, some_line, no_lines}
+
+-- what is held of a source that stands elsewhere
+moved_held : (a : InputFrame) (all : List ℕ) (line : Span) (place : LinePlace) (ahead : Option LinePlace) (lines : Span) (region : Option Opened) (cursor : BlockCursor)
+    → let b : InputFrame = record a { line = line; place = place; ahead = ahead; lines = lines; region = region; cursor = cursor } in
+    IsSpanIn line all → line.end ≤ line.start + LINE → IsPlaceIn (span_text line all) place → IsAfterIn (span_text line all) place ahead → IsSpanIn lines all
+    → AreLinesOf a.kind (span_text lines all) → IsBounded (frame_of b all) → IsHeld a all → IsHeld b all
+moved_held a all line place ahead lines region cursor l s p n m o bounds h =
+    record { line = l; short = s; place = p; ahead = n; lines = m; only = o; arguments = h.arguments; turns = h.turns; bounds = bounds }
 
 -- ---- a part is read
 
@@ -73,32 +81,13 @@ pub past_held : (a : InputFrame) (all text : List ℕ) (place : LinePlace) (pass
 past_held a all text place pass cursor e r g p h =
     let f = frame_of a all in
     let room : cursor.levels.skipped + 2 * length (drop 1 f.parts) ≤ f.cursor.levels.skipped + 2 * length f.parts = rw g (pass_room pass f p) in
-    record {
-      line = h.line;
-      short = h.short;
-      place = rw e at r.within;
-      ahead = tt;
-      lines = h.lines;
-      only = h.only;
-      arguments = h.arguments;
-      turns = h.turns;
-      bounds = rw (past_view a all text place cursor e r) (past_bounded f cursor room h.bounds);
-    }
+    moved_held a all a.line place None a.lines a.region cursor h.line h.short (rw e at r.within) tt h.lines h.only
+    (rw (past_view a all text place cursor e r) (past_bounded f cursor room h.bounds)) h
 
 -- what was read changes nothing of what is seen
 pub ahead_held : (a : InputFrame) (all text : List ℕ) (ahead : LinePlace) → text ≡ span_text a.line all → IsAfter text a.place ahead → IsHeld a all → IsHeld (record a { ahead = Some ahead }) all
 ahead_held a all text ahead e r h =
-    record {
-      line = h.line;
-      short = h.short;
-      place = h.place;
-      ahead = rw e at r;
-      lines = h.lines;
-      only = h.only;
-      arguments = h.arguments;
-      turns = h.turns;
-      bounds = h.bounds;
-    }
+    moved_held a all a.line a.place (Some ahead) a.lines a.region a.cursor h.line h.short h.place (rw e at r) h.lines h.only h.bounds h
 
 -- ---- the rest of the present line is passed
 
@@ -116,17 +105,8 @@ closed_bounded region f h = record { short = h.short; skips = omega (arith, h.sk
 pub closed_held : (a : InputFrame) (all : List ℕ) (place : LinePlace) (region : Option Opened) (cursor : BlockCursor) → place ≡ line_end → cursor ≡ at_line a.cursor.levels → IsHeld a all
     → IsHeld (closed a place region cursor) all
 closed_held a all place region cursor e g h =
-    record {
-      line = h.line;
-      short = h.short;
-      place = rw e tt;
-      ahead = tt;
-      lines = h.lines;
-      only = h.only;
-      arguments = h.arguments;
-      turns = h.turns;
-      bounds = rw (closed_view a all place region cursor e g) (closed_bounded region (frame_of a all) h.bounds);
-    }
+    moved_held a all a.line place None a.lines region cursor h.line h.short (rw e tt) tt h.lines h.only
+    (rw (closed_view a all place region cursor e g) (closed_bounded region (frame_of a all) h.bounds)) h
 
 -- ---- a line is passed
 
@@ -215,17 +195,9 @@ begun_held a all line place lines cursor h b e g held =
     let f = frame_of a all in
     let l = span_len line all h.line_within in
     let s = first_short f.lines (span_text line all) p h.first held.bounds.short in
-    record {
-      line = h.line_within;
-      short = omega (arith, l, s, h.line_within.0);
-      place = e.within;
-      ahead = tt;
-      lines = h.lines_within;
-      only = only_rest a.kind (span_text a.lines all) (span_text lines all) held.only h.rest;
-      arguments = held.arguments;
-      turns = held.turns;
-      bounds = rw (begun_view a all line place lines cursor h b e g) (next_bounded None (first_line_parts f.lines) f (first_weight f.lines) held.bounds);
-    }
+    moved_held a all line place None lines a.region cursor h.line_within (omega (arith, l, s, h.line_within.0)) e.within tt h.lines_within
+    (only_rest a.kind (span_text a.lines all) (span_text lines all) held.only h.rest)
+    (rw (begun_view a all line place lines cursor h b e g) (next_bounded None (first_line_parts f.lines) f (first_weight f.lines) held.bounds)) held
 
 -- a line in a region is passed
 abbrev pub skipped : InputFrame → LinePlace → Span → BlockCursor → InputFrame
@@ -239,33 +211,15 @@ pub skipped_held : (a : InputFrame) (all : List ℕ) (line : Span) (place : Line
     → IsHeld a all → IsHeld (skipped a place lines cursor) all
 skipped_held a all line place lines cursor h e g held =
     let f = frame_of a all in
-    record {
-      line = held.line;
-      short = held.short;
-      place = rw e tt;
-      ahead = tt;
-      lines = h.lines_within;
-      only = only_rest a.kind (span_text a.lines all) (span_text lines all) held.only h.rest;
-      arguments = held.arguments;
-      turns = held.turns;
-      bounds = rw (skipped_view a all line place lines cursor h e g) (next_bounded a.region [] f (omega (arith, rest_weight f.lines)) held.bounds);
-    }
+    moved_held a all a.line place None lines a.region cursor held.line held.short (rw e tt) tt h.lines_within
+    (only_rest a.kind (span_text a.lines all) (span_text lines all) held.only h.rest)
+    (rw (skipped_view a all line place lines cursor h e g) (next_bounded a.region [] f (omega (arith, rest_weight f.lines)) held.bounds)) held
 
 -- a region ends
 pub ended_held : (a : InputFrame) (all : List ℕ) → IsHeld a all → IsHeld (record a { region = None }) all
 unfolding work_in
 ended_held a all h =
-    record {
-      line = h.line;
-      short = h.short;
-      place = h.place;
-      ahead = h.ahead;
-      lines = h.lines;
-      only = h.only;
-      arguments = h.arguments;
-      turns = h.turns;
-      bounds = record { short = h.bounds.short; skips = h.bounds.skips };
-    }
+    moved_held a all a.line a.place a.ahead a.lines None a.cursor h.line h.short h.place h.ahead h.lines h.only (record { short = h.bounds.short; skips = h.bounds.skips }) h
 
 -- ---- the line that comes next
 
@@ -317,16 +271,10 @@ begins_outside None parts lines b e p some none = rw p (begins_lines lines b som
 begins_outside (Some o) parts lines b e p some none = absurd (cc)
 
 less_some : (start end n : ℕ) → n ≡ end - start → nat_lt start end ≡ true → (n == 0) ≡ false
-less_some start end n k t =
-    let p : start < end = grind (arith, nat_tests) in
-    let q : 0 < n = omega arith in
-    grind (arith, nat_tests)
+less_some start end n k t = grind (arith, nat_tests)
 
 less_none : (start end n : ℕ) → n ≡ end - start → nat_lt start end ≡ false → (n == 0) ≡ true
-less_none start end n k t =
-    let p : end ≤ start = grind (arith, nat_tests) in
-    let q : n ≡ 0 = omega arith in
-    grind (arith, nat_tests)
+less_none start end n k t = grind (arith, nat_tests)
 
 pub not_in_region : (a : InputFrame) (all : List ℕ) → is_some a.region ≡ true → false ≡ begins_line (frame_of a all)
 not_in_region a all e = begins_region a.region (frame_of a all).parts (frame_of a all).lines e
@@ -365,10 +313,7 @@ line_over None (part ∷ more) false e none some = refl
 line_over (Some o) parts b e none some = absurd (cc)
 
 lines_none : (a : InputFrame) (all : List ℕ) → a.lines.end ≤ a.lines.start → IsSpanIn a.lines all → (frame_of a all).lines ≡ []
-lines_none a all p h =
-    let k = span_len a.lines all h in
-    let n : length (span_text a.lines all) ≡ 0 = omega arith in
-    no_lines (span_text a.lines all) (grind (arith, nat_tests))
+lines_none a all p h = grind (arith, nat_tests, span_len a.lines all h, no_lines (span_text a.lines all))
 
 pub lines_here : (a : InputFrame) (all : List ℕ) → a.lines.start < a.lines.end → IsSpanIn a.lines all → false ≡ is_over (frame_of a all)
 lines_here a all p h =

@@ -1,9 +1,8 @@
 -- The input stack as its innermost source changes: helpers of proofs.
-use Rattle.std.proofs.Common.{◌≡◌, ℕ, suc, ◌+◌, ◌-◌, ◌<◌, ◌≤◌, nat_lt, ◌==◌, true, false, inl, inr, List, Option, Some, None, [], ◌∷◌, ◌++◌, length, take, reverse, refl, ap, sym, ◌∙◌, arith, length-append}
+use Rattle.std.proofs.Common.{◌≡◌, ℕ, suc, ◌+◌, ◌-◌, ◌<◌, ◌≤◌, nat_lt, ◌==◌, true, false, List, Option, Some, None, [], ◌∷◌, ◌++◌, length, take, reverse, refl, ap, sym, ◌∙◌, arith, length-append}
 use Rattle.std.specs.Vec.{vec_capacity}
 use Rattle.std.specs.Prelude.{◌*◌, drop, sum_by, All}
 use Rattle.std.proofs.Math.Seq.{take-append_seam, drop-append_seam}
-use Rattle.std.proofs.lemmas.Bool.{cases_Bool}
 use Rattle.std.proofs.lemmas.Bool.Decides.{nat_tests}
 use Rattle.std.proofs.lemmas.List.{length-reverse, reverse-append, length-take-le, length-drop}
 use Rattle.std.proofs.lemmas.List.Elements.{All-nil, All-cons}
@@ -52,17 +51,7 @@ top_held a top text t held kind h =
 
 pub may_call_is : (under : List Frame) (n : ℕ) → n ≡ length under → nat_lt n CALLS ≡ is_some (depth under)
 unfolding depth is_some
-may_call_is under n e =
-    elim (cases_Bool (nat_lt n CALLS)) [
-      | inl t ↦
-          let p : n < CALLS = grind (arith, nat_tests) in
-          let k : CALLS - length under ≡ suc (CALLS - length under - 1) = omega arith in
-          rw (t, k) refl
-      | inr f ↦
-          let p : CALLS ≤ n = grind (arith, nat_tests) in
-          let k : CALLS - length under ≡ 0 = omega arith in
-          rw (f, k) refl
-    ]
+may_call_is under n e = grind (arith, nat_tests)
 
 -- ---- the sources around the innermost one
 
@@ -93,14 +82,7 @@ callers_none a e = empty_of a.callers.items (sym (under_len a) ∙ ap length e)
 
 pub is_room : (under : List Frame) → is_some (depth under) ≡ true → length under < CALLS
 unfolding depth is_some
-is_room under h =
-    elim (cases_Bool (nat_lt (length under) CALLS)) [
-      | inl t ↦ grind (arith, nat_tests)
-      | inr f ↦
-          let p : CALLS ≤ length under = grind (arith, nat_tests) in
-          let k : CALLS - length under ≡ 0 = omega arith in
-          let e = rw k at h in absurd (cc e)
-    ]
+is_room under h = grind (arith, nat_tests)
 
 -- one more is around
 around_one : (callers : List Caller) (caller : Caller) → reverse (callers ++ (caller ∷ [])) ≡ caller ∷ reverse callers

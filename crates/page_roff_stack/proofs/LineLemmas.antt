@@ -1,7 +1,8 @@
 -- The lines in a text, each with a line feed at its end: helpers of proofs.
-use Rattle.std.proofs.Common.{◌≡◌, ℕ, suc, ◌+◌, ◌-◌, ◌*◌, ◌<◌, ◌≤◌, Bool, true, false, ◌==◌, ◌&&◌, if◌then◌else◌, List, [], ◌∷◌, ◌++◌, length, get_or, take, drop, refl, sym, ap, ◌∙◌, arith, inl, inr, length-drop}
+use Rattle.std.proofs.Common.{◌≡◌, ℕ, suc, ◌+◌, ◌-◌, ◌*◌, ◌<◌, ◌≤◌, Bool, true, false, ◌==◌, ◌&&◌, if◌then◌else◌, List, [], ◌∷◌, ◌++◌, length, get_or, take, drop, refl, sym, ap, ◌∙◌, arith, length-drop}
 use Rattle.std.proofs.Math.Seq.{take-length}
-use Rattle.std.proofs.lemmas.Bool.{cases_Bool, eqb-true}
+use Rattle.std.proofs.lemmas.Bool.{eqb-true}
+use Rattle.std.proofs.lemmas.Bool.Decides.{nat_tests}
 use Rattle.std.proofs.lemmas.List.{drop-drop, drop-take, drop_all, length-take, length-take-le}
 use Rattle.page_core_base.specs.Texts.{has_no_control, is_no_control}
 use Rattle.page_core_base.specs.declared.limits.TheConstants.{LINE}
@@ -102,12 +103,7 @@ pub page_line_in : (before : ℕ) (line : List ℕ) → has_no_control before li
 unfolding arguments_in
 page_line_in before [] e = refl
 page_line_in before (byte ∷ bytes) e =
-    let rest = page_line_in byte bytes (both_right (is_no_control before byte) (has_no_control byte bytes) e) in
-    let plain = both_left (is_no_control before byte) (has_no_control byte bytes) e in
-    elim (cases_Bool (byte == 10)) [
-      | inl t ↦ let k : byte ≡ 10 = eqb-true byte 10 t in absurd (line_feed_controls before (rw k at plain))
-      | inr f ↦ rw (f, rest) refl
-    ]
+    grind (arith, nat_tests, page_line_in byte bytes (both_right (is_no_control before byte) (has_no_control byte bytes) e), both_left (is_no_control before byte) (has_no_control byte bytes) e)
 
 -- ---- spans
 

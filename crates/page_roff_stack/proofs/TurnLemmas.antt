@@ -1,7 +1,6 @@
 -- A loop of which a turn begins: helpers of proofs.
-use Rattle.std.proofs.Common.{◌≡◌, ℕ, ◌-◌, ◌≤◌, ◌==◌, true, false, inl, inr, List, [], ◌∷◌, ◌++◌, length, take, drop, Option, Some, None, refl, ap, ◌∙◌, append_assoc, arith, length-append}
+use Rattle.std.proofs.Common.{◌≡◌, ℕ, ◌-◌, ◌≤◌, true, false, List, [], ◌∷◌, ◌++◌, length, take, drop, Option, Some, None, refl, ap, ◌∙◌, append_assoc, arith, length-append}
 use Rattle.std.proofs.Math.Seq.{take-append_seam, drop-append_seam}
-use Rattle.std.proofs.lemmas.Bool.{cases_Bool}
 use Rattle.std.proofs.lemmas.Bool.Decides.{nat_tests}
 use Rattle.page_core_base.specs.declared.limits.TheConstants.{BODY}
 use Rattle.page_roff_blocks.specs.declared.line_places.LinePlace.{LinePlace}
@@ -73,11 +72,7 @@ empty_of [] e = refl
 empty_of (byte ∷ bytes) e = absurd (omega (arith, e))
 
 no_line : (text : List ℕ) → length (lines_in text) ≡ 0 → length text ≡ 0
-no_line text e =
-    elim (cases_Bool (length text == 0)) [
-      | inl t ↦ grind (arith, nat_tests)
-      | inr f ↦ absurd (omega (arith, e, some_line text f))
-    ]
+no_line text e = grind (arith, nat_tests, some_line text)
 
 first_of_lines : (lines : List (List ℕ)) (text : List ℕ) → IsFirstLine lines text → (length lines ≡ 0 → length text ≡ 0) → text ≡ first_text lines
 first_of_lines [] text h e = empty_of text (e refl)

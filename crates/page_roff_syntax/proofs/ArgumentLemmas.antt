@@ -24,10 +24,6 @@ bare_pair text i h p e =
     let t : (get_or text i 0 == 92) ≡ true = grind (arith, nat_tests) in
     rw (a, b, p, t, n) refl
 
-bare_at : (x : ℕ) (xs : List ℕ) → is_blank x ≡ false → (x == 92) ≡ false → bare_len (x ∷ xs) ≡ 1 + bare_len xs
-bare_at x [] p t = rw p refl
-bare_at x (y ∷ ys) p t = rw (p, t) refl
-
 -- a byte that is neither a blank nor a backslash
 abbrev pub is_unescaped : ℕ → Bool
 is_unescaped byte = not (byte == 32) && not (byte == 92)
@@ -35,19 +31,7 @@ is_unescaped byte = not (byte == 32) && not (byte == 92)
 -- such bytes are read at once
 pub bare_run : (text : List ℕ) → bare_len text ≡ prefix_len is_unescaped text + bare_len (drop (prefix_len is_unescaped text) text)
 bare_run [] = refl
-bare_run (byte ∷ bytes) =
-    elim (cases_Bool (byte == 32)) [
-      | inl t ↦ rw t (omega arith)
-      | inr t ↦
-          elim (cases_Bool (byte == 92)) [
-            | inl s ↦ rw (t, s) (omega arith)
-            | inr s ↦
-                let l = bare_run bytes in
-                let b = bare_at byte bytes t s in
-                let d = drop-drop (prefix_len is_unescaped bytes) 1 (byte ∷ bytes) in
-                rw (t, s, sym d) (omega (arith, l, b))
-          ]
-    ]
+bare_run (byte ∷ bytes) = grind (arith, bare_run bytes, drop-drop (prefix_len is_unescaped bytes) 1 (byte ∷ bytes))
 
 pub bare_begins : (text : List ℕ) → 0 < length text → get_or text 0 0 ≢ 32 → get_or text 0 0 ≢ 92 → 0 < prefix_len is_unescaped text
 bare_begins [] h e f = absurd (omega arith)
@@ -66,15 +50,7 @@ bare_none text i h p = ends_at (drop i text) (get_or text i 0) (drop (i + 1) tex
 pub bare_within : (text : List ℕ) → bare_len text ≤ length text
 bare_within [] = omega arith
 bare_within (b ∷ []) = elim (cases_Bool (is_blank b)) [ inl t ↦ rw t (omega arith) | inr t ↦ rw t (omega arith) ]
-bare_within (b ∷ c ∷ cs) =
-    elim (cases_Bool (is_blank b)) [
-      | inl t ↦ rw t (omega arith)
-      | inr t ↦
-          elim (cases_Bool (b == 92)) [
-            | inl s ↦ let l = bare_within cs in rw (t, s) (omega (arith, l))
-            | inr s ↦ let l = bare_within (c ∷ cs) in rw (t, s) (omega (arith, l))
-          ]
-    ]
+bare_within (b ∷ c ∷ cs) = grind (arith, bare_within cs, bare_within (c ∷ cs))
 
 pub bare_some : (b : ℕ) (bs : List ℕ) → is_blank b ≡ false → 0 < bare_len (b ∷ bs)
 bare_some b [] t = rw t (omega arith)
@@ -155,28 +131,12 @@ quoted_last text i h k e =
 pub quoted_within : (text : List ℕ) → quoted_len text ≤ length text
 quoted_within [] = omega arith
 quoted_within (b ∷ []) = elim (cases_Bool (b == 34)) [ inl t ↦ rw t (omega arith) | inr t ↦ rw t (omega arith) ]
-quoted_within (b ∷ c ∷ cs) =
-    elim (cases_Bool (b == 34)) [
-      | inl t ↦
-          elim (cases_Bool (c == 34)) [
-            | inl s ↦ let l = quoted_within cs in rw (t, s) (omega (arith, l))
-            | inr s ↦ rw (t, s) (omega arith)
-          ]
-      | inr t ↦
-          elim (cases_Bool (b == 92)) [
-            | inl s ↦ let l = quoted_within cs in rw (t, s) (omega (arith, l))
-            | inr s ↦ let l = quoted_within (c ∷ cs) in rw (t, s) (omega (arith, l))
-          ]
-    ]
+quoted_within (b ∷ c ∷ cs) = grind (arith, quoted_within cs, quoted_within (c ∷ cs))
 
 -- ---- all arguments
 
 argument_some : (b : ℕ) (bs : List ℕ) → is_blank b ≡ false → 0 < argument_len (b ∷ bs)
-argument_some b bs t =
-    elim (cases_Bool (b == 34)) [
-      | inl s ↦ rw s (omega arith)
-      | inr s ↦ rw s (bare_some b bs t)
-    ]
+argument_some b bs t = grind arith
 
 -- more parts than bytes make no difference
 enough : (n m column : ℕ) (text : List ℕ) → length text ≤ n → length text ≤ m → first_arguments n column text ≡ first_arguments m column text

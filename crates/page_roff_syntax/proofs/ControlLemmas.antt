@@ -1,9 +1,9 @@
 -- Control lines, whose comment follows the name: helpers of proofs.
-use Rattle.std.proofs.Common.{◌≡◌, ℕ, zero, suc, ◌+◌, ◌≤◌, ◌==◌, Bool, true, false, nat_lt, List, [], ◌∷◌, length, take, drop, if◌then◌else◌, cond, Some, refl, ap, ◌∙◌, inl, inr, arith}
+use Rattle.std.proofs.Common.{◌≡◌, ℕ, zero, suc, ◌+◌, ◌≤◌, ◌==◌, Bool, true, false, nat_lt, List, [], ◌∷◌, length, take, drop, cond, Some, refl, ap, ◌∙◌, inl, inr, arith}
 use Rattle.std.specs.List.{prefix_len}
 use Rattle.std.proofs.lemmas.Bool.{cases_Bool, eqb-true}
 use Rattle.std.proofs.lemmas.Bool.Decides.{nat_tests}
-use Rattle.page_roff_syntax.specs.LineForms.{is_white, is_name, is_control, has_word, begins_comment, without_comment, name_start, name_len, control_line, form_of}
+use Rattle.page_roff_syntax.specs.LineForms.{is_white, is_name, is_control, has_word, without_comment, name_start, name_len, control_line, form_of}
 use Rattle.page_roff_syntax.specs.laws.Views.{is_plain, begins_control, name_of}
 use Rattle.page_roff_syntax.proofs.FormLemmas.{plain_false}
 use Rattle.page_roff_syntax.specs.declared.line_forms.LineForm.TheVariants.{Control}
@@ -32,18 +32,10 @@ dropped (x ∷ y ∷ ys) (suc n) h =
     ]
 
 -- a run of bytes that a backslash ends is no other one without the comment
-counted_pair : (p : ℕ → Bool) (x y : ℕ) (rest ys : List ℕ) → p x ≡ false
-    → prefix_len p (if begins_comment y then [] else x ∷ y ∷ rest) ≡ prefix_len p (x ∷ y ∷ ys)
-counted_pair p x y rest ys h = elim (cases_Bool (begins_comment y)) [ inl c ↦ rw (c, h) refl | inr c ↦ rw (c, h) refl ]
-
 counted : (p : ℕ → Bool) (text : List ℕ) → p 92 ≡ false → prefix_len p (without_comment text) ≡ prefix_len p text
 counted p [] h = refl
 counted p (x ∷ []) h = refl
-counted p (x ∷ y ∷ ys) h =
-    elim (cases_Bool (x == 92)) [
-      | inl t ↦ rw t (counted_pair p x y (without_comment ys) ys (ap p (eqb-true x 92 t) ∙ h))
-      | inr t ↦ rw (t, counted p (y ∷ ys) h) refl
-    ]
+counted p (x ∷ y ∷ ys) h = grind (arith, nat_tests, counted p (y ∷ ys) h)
 
 -- such a run is before the first backslash
 shorter_step : (a b : Bool) (n m : ℕ) → (b ≡ false → a ≡ false) → n ≤ m → cond a (1 + n) 0 ≤ cond b (1 + m) 0

@@ -1,6 +1,7 @@
 -- Lines and their comments: helpers of proofs.
 use Rattle.std.proofs.Common.{◌≡◌, ℕ, suc, ◌+◌, ◌<◌, ◌≤◌, ◌==◌, Bool, true, false, not, List, [], ◌∷◌, length, take, drop, get_or, Option, Some, None, unwrap_or, refl, sym, ap, inl, inr, arith, length-drop}
 use Rattle.std.proofs.lemmas.Bool.{cases_Bool}
+use Rattle.std.proofs.lemmas.Bool.Decides.{nat_tests}
 use Rattle.std.proofs.lemmas.List.{drop_more, drop-drop, get_or-drop}
 use Rattle.std.proofs.lemmas.List.Sums.{prefix_len_is, prefix_len_stops, prefix_len-le-length}
 use Rattle.std.specs.List.{prefix_len}
@@ -106,15 +107,7 @@ IsFrontOf line text = take (length text) line ≡ text
 uncommented_front : (line : List ℕ) → IsFrontOf line (without_comment line)
 uncommented_front [] = refl
 uncommented_front (x ∷ []) = refl
-uncommented_front (x ∷ y ∷ ys) =
-    elim (cases_Bool (x == 92)) [
-      | inl t ↦
-          elim (cases_Bool (begins_comment y)) [
-            | inl c ↦ rw (t, c) refl
-            | inr c ↦ rw (t, c) (ap (λ (l : List ℕ). x ∷ y ∷ l) (uncommented_front ys))
-          ]
-      | inr t ↦ rw t (ap (λ (l : List ℕ). x ∷ l) (uncommented_front (y ∷ ys)))
-    ]
+uncommented_front (x ∷ y ∷ ys) = grind (arith, nat_tests, uncommented_front ys, uncommented_front (y ∷ ys))
 
 pub front_of : (line : List ℕ) (n : ℕ) → length (without_comment line) ≡ n → take n line ≡ without_comment line
 front_of line n e = rw (← e) (uncommented_front line)

@@ -4,14 +4,16 @@ use Rattle.std.proofs.Common.{◌≡◌, ℕ, zero, suc, ◌+◌, ◌-◌, ◌*�
 use Rattle.std.proofs.Math.Nat.{mul-suc, mul-le-mul_left}
 use Rattle.std.proofs.lemmas.Bool.{ltb-true}
 use Rattle.page_core_base.specs.declared.note_kinds.NoteKind.TheVariants.{Loop, UndefString, ArgOutside}
+use Rattle.page_core_base.specs.Messages.{Message}
 use Rattle.page_roff_names.specs.Names.{string_of}
 use Rattle.page_core_base.specs.declared.limits.TheConstants.{EXPAND}
 use Rattle.page_roff_parts.specs.declared.parts.Call.{Call}
 use Rattle.page_roff_parts.specs.declared.parts.Call.TheVariants.{String, Register, Argument, Width}
 use Rattle.page_roff_values.specs.Values.{argument_of, Surroundings, register_of, TextSoFar, LaidText, nothing, join, seq, says, ends, counts, put, charge, width, interpolated, call_at, value}
 use Rattle.page_roff_parts.specs.Parts.{without_lone}
-use Rattle.page_roff_values.specs.machine.Rest.{HUGE, rest, room_in, size, steps}
-use Rattle.page_roff_values.proofs.LayLemmas.{seq_more, seq_nothing}
+use Rattle.page_roff_values.specs.laws.Views.{Goes}
+use Rattle.page_roff_values.specs.machine.Rest.{HUGE, calling, going_on, rest, room_in, size, steps}
+use Rattle.page_roff_values.proofs.LayLemmas.{goes_on, goes_same, seq_more, seq_nothing}
 
 ended_at : (env : Surroundings) (d : ℕ) (call : Call (List ℕ)) (s : TextSoFar) → nat_lt s.count EXPAND ≡ false
     → call_at env d call s ≡ ends Loop (codes "EXPAND") s
@@ -44,7 +46,7 @@ unfolding call_at charge value
 interpolates_at env d e call s h q = rw (q, h) refl
 
 -- what one gives that isn't
-pub call_gives : (env : Surroundings) (room d : ℕ) (t : List ℕ) (ts : List (List ℕ)) (call : Call (List ℕ)) (s : TextSoFar) (f : TextSoFar → LaidText) (given : LaidText)
+call_gives : (env : Surroundings) (room d : ℕ) (t : List ℕ) (ts : List (List ℕ)) (call : Call (List ℕ)) (s : TextSoFar) (f : TextSoFar → LaidText) (given : LaidText)
     → nat_lt s.count EXPAND ≡ true → length ts + suc d ≡ room → interpolated env (value env d) call (counts s) ≡ given
     → seq (call_at env (room_in room (t ∷ ts)) call s) f ≡ join given (seq (nothing given.edge) f)
 unfolding room_in
@@ -52,7 +54,7 @@ call_gives env room d t ts call s f given h l e =
     ap (λ a. seq a f) (interpolates_at env (room - length ts) d call s h (omega arith) ∙ e) ∙ seq_more given f
 
 -- one with a value: that is read before the rest
-pub call_enters : (env : Surroundings) (room d : ℕ) (t : List ℕ) (ts : List (List ℕ)) (call : Call (List ℕ)) (w : List ℕ) (s : TextSoFar)
+call_enters : (env : Surroundings) (room d : ℕ) (t : List ℕ) (ts : List (List ℕ)) (call : Call (List ℕ)) (w : List ℕ) (s : TextSoFar)
     → s.ended ≡ false → nat_lt s.count EXPAND ≡ true → length ts + suc d ≡ room
     → interpolated env (value env d) call (counts s) ≡ value env d w (counts s)
     → seq (call_at env (room_in room (t ∷ ts)) call s) (rest env room (t ∷ ts)) ≡ seq (nothing (counts s)) (rest env room (w ∷ t ∷ ts))
@@ -61,6 +63,18 @@ call_enters env room d t ts call w s g h l e =
     let k : d ≡ room - length (t ∷ ts) = omega arith in
     ap (λ a. seq a (rest env room (t ∷ ts))) (interpolates_at env (room - length ts) d call s h (omega arith) ∙ e)
     ∙ (ap (λ n. seq (value env n w (counts s)) (rest env room (t ∷ ts))) k ∙ sym (seq_nothing (counts s) (rest env room (w ∷ t ∷ ts)) g))
+
+-- the same of what was given: it is laid before the rest, or the value is read before it
+pub gives : {P S : Type 0} (left : P → S → List Message → Type 0) (old new : S) (env : Surroundings) (room d : ℕ) (t : List ℕ) (ts : List (List ℕ)) (call : Call (List ℕ))
+    (s e : TextSoFar) (given : LaidText) → nat_lt s.count EXPAND ≡ true → length ts + suc d ≡ room → interpolated env (value env d) call (counts s) ≡ given
+    → Goes left old given new (nothing e) → Goes left old (calling env room call (t ∷ ts) s) new (going_on env room (t ∷ ts) e)
+gives left old new env room d t ts call s e given fits deep is goes =
+    goes_on left old new _ given e (rest env room (t ∷ ts)) (call_gives env room d t ts call s (rest env room (t ∷ ts)) given fits deep is) goes
+
+pub enters : {P S : Type 0} (left : P → S → List Message → Type 0) (old : S) (env : Surroundings) (room d : ℕ) (t : List ℕ) (ts : List (List ℕ)) (call : Call (List ℕ))
+    (w : List ℕ) (s : TextSoFar) → s.ended ≡ false → nat_lt s.count EXPAND ≡ true → length ts + suc d ≡ room → interpolated env (value env d) call (counts s) ≡ value env d w (counts s)
+    → Goes left old (calling env room call (t ∷ ts) s) old (going_on env room (w ∷ t ∷ ts) (counts s))
+enters left old env room d t ts call w s going fits deep is = goes_same left old _ _ (call_enters env room d t ts call w s going fits deep is)
 
 -- ---- what each interpolation is
 

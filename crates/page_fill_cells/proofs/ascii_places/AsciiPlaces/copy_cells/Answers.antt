@@ -1,7 +1,7 @@
 use Rattle.std.proofs.Common.{◌≡◌, length, take, sym, ap, ◌∙◌, arith}
 use Rattle.std.proofs.lemmas.List.{length-take-le}
 use Rattle.page_core_base.specs.laws.Views.{cells_in}
-use Rattle.page_fill_cells.proofs.PlaceLemmas.{all-held, in-take, put-first, slices}
+use Rattle.page_fill_cells.proofs.PlaceLemmas.{all-held, front-row, put-first, slices}
 use Rattle.page_fill_cells.proofs.ascii_places.AsciiPlaces.copy_cells.Goals as goal
 
 pub slice_bounds-put_cells_in-end : goal.slice_bounds-put_cells_in-end
@@ -19,11 +19,7 @@ slice_bounds-put_cells_in-end-2 c =
 pub returns : goal.returns
 returns c =
     let p = c.self.inside in
-    let s = slices p.bytes.items c.deref.result.now p.fonts.items c.deref-2.result.now c.args.self.now c.self.invariant c.self.view_is c.deref.ensures.value c.deref-2.ensures.value in
-    let row : cells_in (take c.args.end c.deref.result.now) (take c.args.end c.deref-2.result.now) ≡ take c.args.end c.args.self.now =
-    sym (in-take c.args.end c.deref.result.now c.deref-2.result.now)
-    ∙ (ap (λ l. take c.args.end (cells_in l c.deref-2.result.now)) c.deref.ensures.value
-    ∙ (ap (λ l. take c.args.end (cells_in p.bytes.items l)) c.deref-2.ensures.value ∙ ap (take c.args.end) c.self.view_is)) in
+    let row = front-row p.bytes.items c.deref.result.now p.fonts.items c.deref-2.result.now c.args.self.now c.args.end c.self.view_is c.deref.ensures.value c.deref-2.ensures.value in
     let count : length (take c.args.end c.args.self.now) ≡ c.args.end = length-take-le c.args.end c.args.self.now c.requires.0 in
     ap (take c.args.end) c.put_cells_in.ensures
     ∙ (put-first c.args.places.now (cells_in (take c.args.end c.deref.result.now) (take c.args.end c.deref-2.result.now)) c.args.end (ap length row ∙ count) ∙ row)

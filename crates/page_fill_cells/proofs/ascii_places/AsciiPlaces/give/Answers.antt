@@ -2,7 +2,7 @@ use Rattle.std.proofs.Common.{◌≡◌, length, take, sym, ap, ◌∙◌, arith
 use Rattle.std.proofs.lemmas.List.{length-take-le}
 use Rattle.page_core_base.specs.laws.Views.{AreAscii, cells_in, is_printable_ascii}
 use Rattle.page_core_base.specs.Rows.{is_blank_row, row_of}
-use Rattle.page_fill_cells.proofs.PlaceLemmas.{all-held, in-take, printable-ascii, slices}
+use Rattle.page_fill_cells.proofs.PlaceLemmas.{all-held, front-row, printable-ascii, slices}
 use Rattle.page_fill_cells.proofs.ascii_places.AsciiPlaces.give.Goals as goal
 
 pub slice_bounds-give_ascii-end : goal.slice_bounds-give_ascii-end
@@ -21,10 +21,7 @@ pub give_ascii-requires : goal.give_ascii-requires
 give_ascii-requires g c =
     let p = c.self.inside in
     let s = slices p.bytes.items c.deref.result.now p.fonts.items c.deref-2.result.now c.args.self.now c.self.invariant c.self.view_is c.deref.ensures.value c.deref-2.ensures.value in
-    let row : cells_in (take c.args.end c.deref.result.now) (take c.args.end c.deref-2.result.now) ≡ take c.args.end c.args.self.now =
-    sym (in-take c.args.end c.deref.result.now c.deref-2.result.now)
-    ∙ (ap (λ l. take c.args.end (cells_in l c.deref-2.result.now)) c.deref.ensures.value
-    ∙ (ap (λ l. take c.args.end (cells_in p.bytes.items l)) c.deref-2.ensures.value ∙ ap (take c.args.end) c.self.view_is)) in
+    let row = front-row p.bytes.items c.deref.result.now p.fonts.items c.deref-2.result.now c.args.self.now c.args.end c.self.view_is c.deref.ensures.value c.deref-2.ensures.value in
     let b : length (take c.args.end c.deref.result.now) ≡ c.args.end = length-take-le c.args.end c.deref.result.now (omega (arith, s.0, c.requires.within)) in
     let f : length (take c.args.end c.deref-2.result.now) ≡ c.args.end = length-take-le c.args.end c.deref-2.result.now (omega (arith, s.0, s.1, c.requires.within)) in
     let are : AreAscii (take c.args.end c.deref.result.now) (take c.args.end c.deref-2.result.now) c.args.is_blank = record {
@@ -37,8 +34,5 @@ give_ascii-requires g c =
 pub returns-clause-gives : goal.returns-clause-gives
 returns-clause-gives g c = λ plan more said left.
     let p = c.self.inside in
-    let row : cells_in (take c.args.end c.deref.result.now) (take c.args.end c.deref-2.result.now) ≡ take c.args.end c.args.self.now =
-    sym (in-take c.args.end c.deref.result.now c.deref-2.result.now)
-    ∙ (ap (λ l. take c.args.end (cells_in l c.deref-2.result.now)) c.deref.ensures.value
-    ∙ (ap (λ l. take c.args.end (cells_in p.bytes.items l)) c.deref-2.ensures.value ∙ ap (take c.args.end) c.self.view_is)) in
+    let row = front-row p.bytes.items c.deref.result.now p.fonts.items c.deref-2.result.now c.args.self.now c.args.end c.self.view_is c.deref.ensures.value c.deref-2.ensures.value in
     c.give_ascii.ensures.rows plan more said (rw (ap (row_of c.args.margin) (sym row)) at left)

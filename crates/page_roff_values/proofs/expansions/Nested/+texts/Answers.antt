@@ -1,19 +1,17 @@
 use Rattle.std.specs.Fmt.{decimal, signed_decimal}
-use Rattle.std.proofs.Common.{◌-◌, [], ◌∷◌, length, codes, arith, ap, ◌∙◌, sym, rules, refl}
+use Rattle.std.proofs.Common.{◌-◌, ◌∷◌, length, codes, arith, ap, ◌∙◌, sym, rules, refl}
 use Rattle.std.proofs.Common.{w32}
 use Rattle.std.proofs.lemmas.Int.{to_z-of_z}
-use Rattle.page_core_base.specs.declared.note_kinds.NoteKind.TheVariants.{UndefString, ArgOutside, Loop}
+use Rattle.page_core_base.specs.declared.note_kinds.NoteKind.TheVariants.{Loop}
 use Rattle.page_roff_values.specs.machine.Views.{surroundings_of}
-use Rattle.page_roff_values.specs.machine.Expansions.{NestedSpot}
-use Rattle.page_roff_values.specs.machine.Rest.{rest, room_in, steps, texts_of}
-use Rattle.page_roff_values.specs.Values.{TextSoFar, nothing, seq, says, ends, counts, put, width, inside, call_at, value}
+use Rattle.page_roff_values.specs.machine.Rest.{calling, rest, room_in, steps, texts_of}
+use Rattle.page_roff_values.specs.Values.{TextSoFar, nothing, seq, says, ends, counts, put, inside, call_at, value, width}
 use Rattle.page_roff_parts.specs.machine.Views.{call_of}
-use Rattle.page_roff_values.proofs.CallLemmas.{call_ends, call_deep, call_gives, call_enters, string_some, string_none, argument_some, argument_none, register_some, width_some, steps_counts, steps_later, steps_less, size_value}
+use Rattle.page_roff_values.proofs.CallLemmas.{call_ends, call_deep, gives, enters, string_some, string_none, argument_some, argument_none, register_some, width_some, steps_counts, steps_later, steps_less, size_value}
 use Rattle.page_roff_values.proofs.FollowLemmas.{put_follows, put_count, width_follows, value_follows}
-use Rattle.page_roff_values.proofs.GoingLemmas.{begins}
 use Rattle.page_roff_values.proofs.LayLemmas.{goes_on, goes_then, goes_same, going, gone, seq_ended, seq_more, seq_nothing}
 use Rattle.page_roff_values.proofs.TextLemmas.{outer_of}
-use Rattle.page_roff_values.proofs.WidthLemmas.{goes_back, width_goes}
+use Rattle.page_roff_values.proofs.WidthLemmas.{width_read}
 use Rattle.page_roff_values.proofs.expansions.Nested.+texts.Goals as goal
 
 -- ---- an interpolation
@@ -22,12 +20,10 @@ pub call-returns-then-not-charge-clause-goes : goal.call-returns-then-not-charge
 call-returns-then-not-charge-clause-goes g x c =
     let env = surroundings_of c.args.env.now in
     let s = c.args.self.now.spot in
-    let room = c.args.room in
-    let t = c.args.sources.now.inner in
-    let ts = outer_of c.args.sources.now.outer.items in
-    let call = call_of c.args.call in
-    goes_on g.O.NoteOut.left _ _ (seq (call_at env (room_in room (t ∷ ts)) call s) (rest env room (t ∷ ts))) (ends Loop (codes "EXPAND") s) c.report_end.new.self.spot (rest env room (t ∷ ts))
-    (call_ends env (room_in room (t ∷ ts)) call s (rest env room (t ∷ ts)) (sym c.if-not-charge.ensures.fits)) (rw (c.if-not-charge.ensures.counted, c.as_bytes.ensures.value, c.name.ensures) at c.report_end.ensures.goes)
+    let ts = texts_of c.args.sources.now in
+    let after = rest env c.args.room ts in
+    goes_on g.O.NoteOut.left _ _ (calling env c.args.room (call_of c.args.call) ts s) (ends Loop (codes "EXPAND") s) c.report_end.new.self.spot after
+    (call_ends env (room_in c.args.room ts) (call_of c.args.call) s after (sym c.if-not-charge.ensures.fits)) (rw (c.if-not-charge.ensures.counted, c.as_bytes.ensures.value, c.name.ensures) at c.report_end.ensures.goes)
 
 pub call-returns-then-not-charge-clause-falls : goal.call-returns-then-not-charge-clause-falls
 unfolding steps
@@ -37,12 +33,10 @@ pub call-returns-then-room-depth-clause-goes : goal.call-returns-then-room-depth
 call-returns-then-room-depth-clause-goes g x c =
     let env = surroundings_of c.args.env.now in
     let s = c.args.self.now.spot in
-    let room = c.args.room in
-    let t = c.args.sources.now.inner in
-    let ts = outer_of c.args.sources.now.outer.items in
-    let call = call_of c.args.call in
-    rw c.if-not-charge.ensures.counted (goes_on g.O.NoteOut.left _ _ (seq (call_at env (room_in room (t ∷ ts)) call s) (rest env room (t ∷ ts))) (says Loop (codes "NEST") (counts s)) (counts s) (rest env room (t ∷ ts))
-    (call_deep env room t ts call s (rest env room (t ∷ ts)) (sym c.if-not-charge.ensures.fits) (omega (arith, c.depth.ensures.value))) (rw (c.if-not-charge.ensures.counted, c.as_bytes-then-room-depth.ensures.value, c.name-then-room-depth.ensures) at c.report.ensures))
+    let ts = texts_of c.args.sources.now in
+    let after = rest env c.args.room ts in
+    rw c.if-not-charge.ensures.counted (goes_on g.O.NoteOut.left _ _ (calling env c.args.room (call_of c.args.call) ts s) (says Loop (codes "NEST") (counts s)) (counts s) after
+    (call_deep env c.args.room c.args.sources.now.inner (outer_of c.args.sources.now.outer.items) (call_of c.args.call) s after (sym c.if-not-charge.ensures.fits) (omega (arith, c.depth.ensures.value))) (rw (c.if-not-charge.ensures.counted, c.as_bytes-then-room-depth.ensures.value, c.name-then-room-depth.ensures) at c.report.ensures))
 
 pub call-returns-then-room-depth-clause-falls : goal.call-returns-then-room-depth-clause-falls
 call-returns-then-room-depth-clause-falls g x c =
@@ -51,17 +45,11 @@ call-returns-then-room-depth-clause-falls g x c =
 
 pub call-returns-in-Register-clause-goes : goal.call-returns-in-Register-clause-goes
 call-returns-in-Register-clause-goes g x c =
-    let env = surroundings_of c.args.env.now in
     let s = c.args.self.now.spot in
-    let room = c.args.room in
-    let t = c.args.sources.now.inner in
     let ts = outer_of c.args.sources.now.outer.items in
-    let call = call_of c.args.call in
-    let d = room - length (t ∷ ts) in
-    let given = put (signed_decimal c.register.result) (counts s) in
-    goes_on g.O.NoteOut.left _ _ (seq (call_at env (room_in room (t ∷ ts)) call s) (rest env room (t ∷ ts))) given c.put_number.new.self.spot (rest env room (t ∷ ts))
-    (call_gives env room d t ts call s (rest env room (t ∷ ts)) given (sym c.if-not-charge.ensures.fits) (omega (arith, c.depth.ensures.value))
-    (register_some env (value env d) call c.in-Register.name.now c.register.result (counts s) (ap call_of c.in-Register.is) c.register.ensures)) (rw (c.if-not-charge.ensures.counted, to_z-of_z w32 c.register.result (search rules)) at c.put_number.ensures.goes)
+    let d = c.args.room - length ts - 1 in
+    gives g.O.NoteOut.left _ _ _ c.args.room d _ ts _ s _ _ (sym c.if-not-charge.ensures.fits) (omega (arith, c.depth.ensures.value))
+    (register_some _ (value _ d) _ c.in-Register.name.now c.register.result (counts s) (ap call_of c.in-Register.is) c.register.ensures) (rw (c.if-not-charge.ensures.counted, to_z-of_z w32 c.register.result (search rules)) at c.put_number.ensures.goes)
 
 pub call-returns-in-Register-clause-falls : goal.call-returns-in-Register-clause-falls
 call-returns-in-Register-clause-falls g x c =
@@ -70,17 +58,10 @@ call-returns-in-Register-clause-falls g x c =
 
 pub call-returns-in-Width-clause-goes : goal.call-returns-in-Width-clause-goes
 call-returns-in-Width-clause-goes g x c =
-    let env = surroundings_of c.args.env.now in
     let s = c.args.self.now.spot in
-    let room = c.args.room in
-    let t = c.args.sources.now.inner in
-    let ts = outer_of c.args.sources.now.outer.items in
-    let call = call_of c.args.call in
-    let d = room - c.depth-in-Width.result - 1 in
-    let given = width env.units (value env d c.in-Width.text.now) (counts s) in
-    goes_on g.O.NoteOut.left _ _ (seq (call_at env (room_in room (t ∷ ts)) call s) (rest env room (t ∷ ts))) given c.put_width.new.self.spot (rest env room (t ∷ ts))
-    (call_gives env room d t ts call s (rest env room (t ∷ ts)) given (sym c.if-not-charge.ensures.fits) (omega (arith, c.depth.ensures.value, c.depth-in-Width.ensures.value))
-    (width_some env (value env d) call c.in-Width.text.now (counts s) (ap call_of c.in-Width.is))) (rw c.if-not-charge.ensures.counted at c.put_width.ensures.goes)
+    let d = c.args.room - c.depth-in-Width.result - 1 in
+    gives g.O.NoteOut.left _ _ _ c.args.room d _ (outer_of c.args.sources.now.outer.items) _ s _ _ (sym c.if-not-charge.ensures.fits) (omega (arith, c.depth.ensures.value, c.depth-in-Width.ensures.value))
+    (width_some _ (value _ d) _ c.in-Width.text.now (counts s) (ap call_of c.in-Width.is)) (rw c.if-not-charge.ensures.counted at c.put_width.ensures.goes)
 
 pub call-returns-in-Width-clause-falls : goal.call-returns-in-Width-clause-falls
 call-returns-in-Width-clause-falls g x c =
@@ -91,17 +72,12 @@ call-returns-in-Width-clause-falls g x c =
 
 pub call-returns-in-Some-clause-goes : goal.call-returns-in-Some-clause-goes
 call-returns-in-Some-clause-goes g x c =
-    let env = surroundings_of c.args.env.now in
     let s = c.args.self.now.spot in
-    let room = c.args.room in
-    let t = c.args.sources.now.inner in
     let ts = outer_of c.args.sources.now.outer.items in
-    let call = call_of c.args.call in
-    let d = room - length (t ∷ ts) in
+    let d = c.args.room - length ts - 1 in
     let w = c.without_lone.result.now in
-    rw (c.if-not-charge.ensures.counted, c.enter.ensures.texts) (goes_same g.O.NoteOut.left _ (seq (call_at env (room_in room (t ∷ ts)) call s) (rest env room (t ∷ ts))) (seq (nothing (counts s)) (rest env room (w ∷ t ∷ ts)))
-    (call_enters env room d t ts call w s c.requires.going (sym c.if-not-charge.ensures.fits) (omega (arith, c.depth.ensures.value))
-    (string_some env (value env d) call c.in-String.name.now c.in-Some.value.now w (counts s) (ap call_of c.in-String.is) c.in-Some.ensures c.without_lone.ensures.value)))
+    rw (c.if-not-charge.ensures.counted, c.enter.ensures.texts) (enters g.O.NoteOut.left _ _ c.args.room d _ ts _ w s c.requires.going (sym c.if-not-charge.ensures.fits) (omega (arith, c.depth.ensures.value))
+    (string_some _ (value _ d) _ c.in-String.name.now c.in-Some.value.now w (counts s) (ap call_of c.in-String.is) c.in-Some.ensures c.without_lone.ensures.value))
 
 pub call-returns-in-Some-clause-falls : goal.call-returns-in-Some-clause-falls
 call-returns-in-Some-clause-falls g x c =
@@ -111,17 +87,11 @@ call-returns-in-Some-clause-falls g x c =
 
 pub call-returns-in-None-clause-goes : goal.call-returns-in-None-clause-goes
 call-returns-in-None-clause-goes g x c =
-    let env = surroundings_of c.args.env.now in
     let s = c.args.self.now.spot in
-    let room = c.args.room in
-    let t = c.args.sources.now.inner in
     let ts = outer_of c.args.sources.now.outer.items in
-    let call = call_of c.args.call in
-    let d = room - length (t ∷ ts) in
-    let given = says UndefString c.in-String.name.now (counts s) in
-    rw c.if-not-charge.ensures.counted (goes_on g.O.NoteOut.left _ _ (seq (call_at env (room_in room (t ∷ ts)) call s) (rest env room (t ∷ ts))) given (counts s) (rest env room (t ∷ ts))
-    (call_gives env room d t ts call s (rest env room (t ∷ ts)) given (sym c.if-not-charge.ensures.fits) (omega (arith, c.depth.ensures.value))
-    (string_none env (value env d) call c.in-String.name.now (counts s) (ap call_of c.in-String.is) c.in-None.ensures)) (rw c.if-not-charge.ensures.counted at c.report-in-None.ensures))
+    let d = c.args.room - length ts - 1 in
+    rw c.if-not-charge.ensures.counted (gives g.O.NoteOut.left _ _ _ c.args.room d _ ts _ s (counts s) _ (sym c.if-not-charge.ensures.fits) (omega (arith, c.depth.ensures.value))
+    (string_none _ (value _ d) _ c.in-String.name.now (counts s) (ap call_of c.in-String.is) c.in-None.ensures) (rw c.if-not-charge.ensures.counted at c.report-in-None.ensures))
 
 pub call-returns-in-None-clause-falls : goal.call-returns-in-None-clause-falls
 call-returns-in-None-clause-falls g x c =
@@ -130,17 +100,12 @@ call-returns-in-None-clause-falls g x c =
 
 pub call-returns-in-Some-argument-clause-goes : goal.call-returns-in-Some-argument-clause-goes
 call-returns-in-Some-argument-clause-goes g x c =
-    let env = surroundings_of c.args.env.now in
     let s = c.args.self.now.spot in
-    let room = c.args.room in
-    let t = c.args.sources.now.inner in
     let ts = outer_of c.args.sources.now.outer.items in
-    let call = call_of c.args.call in
-    let d = room - length (t ∷ ts) in
+    let d = c.args.room - length ts - 1 in
     let w = c.without_lone-in-Some-argument.result.now in
-    rw (c.if-not-charge.ensures.counted, c.enter-in-Some-argument.ensures.texts) (goes_same g.O.NoteOut.left _ (seq (call_at env (room_in room (t ∷ ts)) call s) (rest env room (t ∷ ts))) (seq (nothing (counts s)) (rest env room (w ∷ t ∷ ts)))
-    (call_enters env room d t ts call w s c.requires.going (sym c.if-not-charge.ensures.fits) (omega (arith, c.depth.ensures.value))
-    (argument_some env (value env d) call c.in-Argument.escape.now c.in-Some-argument.value.now w (counts s) (ap call_of c.in-Argument.is) c.in-Some-argument.ensures c.without_lone-in-Some-argument.ensures.value)))
+    rw (c.if-not-charge.ensures.counted, c.enter-in-Some-argument.ensures.texts) (enters g.O.NoteOut.left _ _ c.args.room d _ ts _ w s c.requires.going (sym c.if-not-charge.ensures.fits) (omega (arith, c.depth.ensures.value))
+    (argument_some _ (value _ d) _ c.in-Argument.escape.now c.in-Some-argument.value.now w (counts s) (ap call_of c.in-Argument.is) c.in-Some-argument.ensures c.without_lone-in-Some-argument.ensures.value))
 
 pub call-returns-in-Some-argument-clause-falls : goal.call-returns-in-Some-argument-clause-falls
 call-returns-in-Some-argument-clause-falls g x c =
@@ -150,17 +115,11 @@ call-returns-in-Some-argument-clause-falls g x c =
 
 pub call-returns-in-None-argument-clause-goes : goal.call-returns-in-None-argument-clause-goes
 call-returns-in-None-argument-clause-goes g x c =
-    let env = surroundings_of c.args.env.now in
     let s = c.args.self.now.spot in
-    let room = c.args.room in
-    let t = c.args.sources.now.inner in
     let ts = outer_of c.args.sources.now.outer.items in
-    let call = call_of c.args.call in
-    let d = room - length (t ∷ ts) in
-    let given = says ArgOutside c.in-Argument.escape.now (counts s) in
-    rw c.if-not-charge.ensures.counted (goes_on g.O.NoteOut.left _ _ (seq (call_at env (room_in room (t ∷ ts)) call s) (rest env room (t ∷ ts))) given (counts s) (rest env room (t ∷ ts))
-    (call_gives env room d t ts call s (rest env room (t ∷ ts)) given (sym c.if-not-charge.ensures.fits) (omega (arith, c.depth.ensures.value))
-    (argument_none env (value env d) call c.in-Argument.escape.now (counts s) (ap call_of c.in-Argument.is) c.in-None-argument.ensures)) (rw c.if-not-charge.ensures.counted at c.report-in-None-argument.ensures))
+    let d = c.args.room - length ts - 1 in
+    rw c.if-not-charge.ensures.counted (gives g.O.NoteOut.left _ _ _ c.args.room d _ ts _ s (counts s) _ (sym c.if-not-charge.ensures.fits) (omega (arith, c.depth.ensures.value))
+    (argument_none _ (value _ d) _ c.in-Argument.escape.now (counts s) (ap call_of c.in-Argument.is) c.in-None-argument.ensures) (rw c.if-not-charge.ensures.counted at c.report-in-None-argument.ensures))
 
 pub call-returns-in-None-argument-clause-falls : goal.call-returns-in-None-argument-clause-falls
 call-returns-in-None-argument-clause-falls g x c =
@@ -169,71 +128,37 @@ call-returns-in-None-argument-clause-falls g x c =
 
 -- ---- a width
 
-pub put_width-returns-then-is_going-clause-goes : goal.put_width-returns-then-is_going-clause-goes
-put_width-returns-then-is_going-clause-goes g x c =
+pub put_width-returns-then-is_going : goal.put_width-returns-then-is_going
+put_width-returns-then-is_going g x c =
     let env = surroundings_of c.args.env.now in
-    let s = c.args.self.now in
-    let room = c.args.room in
-    let text = c.args.text.now in
-    let t = c.run.new.self in
     let u = c.go_outside.new.self in
     let outside' = c.go_inside-outside.ensures in
-    let ran = rw (c.new-sources.ensures, outside'.inside) at c.run.ensures.goes in
-    let kept = rw outside'.inside at c.run.ensures.before in
-    let back = rw (outside'.start, outside'.width_column, c.units-units.ensures.same) at c.go_outside.ensures ∙ goes_back env room text s t c.requires.going ran.1 kept in
-    let same = begins env room text (inside s.spot) c.requires.going in
+    let read = width_read g.O.NoteOut.left _ _ env.units env c.args.room c.args.text.now c.args.self.now c.run.new.self u c.units-units.result c.requires.going
+    (rw (c.new-sources.ensures, outside'.inside) at c.run.ensures.goes) (rw outside'.inside at c.run.ensures.before)
+    (rw (outside'.start, outside'.width_column, c.units-units.ensures.same) at c.go_outside.ensures) c.units-units.ensures.units in
     let last = seq (nothing u.spot) (put (decimal c.units-units.result)) in
-    goes_then g.O.NoteOut.left _ _ _ (width env.units (value env room text) s.spot) last (nothing c.put_units.new.self.spot)
-    (width_goes g.O.NoteOut.left _ _ env.units (value env room text) s.spot t.spot u.spot c.units-units.result
-    (goes_then g.O.NoteOut.left _ _ _ (value env room text (inside s.spot)) (seq (nothing (inside s.spot)) (rest env room (text ∷ []))) (nothing t.spot) (goes_same g.O.NoteOut.left _ _ _ same) ran) (ap (λ (a : NestedSpot). a.spot) back) c.units-units.ensures.units)
-    (goes_then g.O.NoteOut.left _ _ _ last (put (decimal c.units-units.result) u.spot) (nothing c.put_units.new.self.spot)
-    (goes_same g.O.NoteOut.left _ last (put (decimal c.units-units.result) u.spot) (seq_nothing u.spot (put (decimal c.units-units.result)) (going _ (sym c.if-is_going.true ∙ c.is_going.ensures))))
-    c.put_units.ensures.goes)
+    let given = put (decimal c.units-units.result) u.spot in
+    record {
+      goes = goes_then g.O.NoteOut.left _ _ _ (width env.units (value env c.args.room c.args.text.now) c.args.self.now.spot) last (nothing c.put_units.new.self.spot) read.0
+          (goes_then g.O.NoteOut.left _ _ _ last given (nothing c.put_units.new.self.spot)
+          (goes_same g.O.NoteOut.left _ last given (seq_nothing u.spot (put (decimal c.units-units.result)) (going _ (sym c.if-is_going.true ∙ c.is_going.ensures)))) c.put_units.ensures.goes);
+      before = c.put_units.ensures.before ∙ read.1;
+    }
 
-pub put_width-returns-then-is_going-clause-before : goal.put_width-returns-then-is_going-clause-before
-put_width-returns-then-is_going-clause-before g x c =
+pub put_width-returns-else-is_going : goal.put_width-returns-else-is_going
+put_width-returns-else-is_going g x c =
     let env = surroundings_of c.args.env.now in
-    let s = c.args.self.now in
-    let room = c.args.room in
-    let text = c.args.text.now in
-    let t = c.run.new.self in
-    let outside' = c.go_inside-outside.ensures in
-    let ran = rw (c.new-sources.ensures, outside'.inside) at c.run.ensures.goes in
-    let kept = rw outside'.inside at c.run.ensures.before in
-    let back = rw (outside'.start, outside'.width_column, c.units-units.ensures.same) at c.go_outside.ensures ∙ goes_back env room text s t c.requires.going ran.1 kept in
-    c.put_units.ensures.before ∙ ap (λ (a : NestedSpot). a.before) back
-
-pub put_width-returns-else-is_going-clause-goes : goal.put_width-returns-else-is_going-clause-goes
-put_width-returns-else-is_going-clause-goes g x c =
-    let env = surroundings_of c.args.env.now in
-    let s = c.args.self.now in
-    let room = c.args.room in
-    let text = c.args.text.now in
-    let t = c.run.new.self in
     let u = c.go_outside.new.self in
     let outside' = c.go_inside-outside.ensures in
-    let ran = rw (c.new-sources.ensures, outside'.inside) at c.run.ensures.goes in
-    let kept = rw outside'.inside at c.run.ensures.before in
-    let back = rw (outside'.start, outside'.width_column, c.units-units.ensures.same) at c.go_outside.ensures ∙ goes_back env room text s t c.requires.going ran.1 kept in
-    let same = begins env room text (inside s.spot) c.requires.going in
+    let read = width_read g.O.NoteOut.left _ _ env.units env c.args.room c.args.text.now c.args.self.now c.run.new.self u c.units-units.result c.requires.going
+    (rw (c.new-sources.ensures, outside'.inside) at c.run.ensures.goes) (rw outside'.inside at c.run.ensures.before)
+    (rw (outside'.start, outside'.width_column, c.units-units.ensures.same) at c.go_outside.ensures) c.units-units.ensures.units in
     let last = seq (nothing u.spot) (put (decimal c.units-units.result)) in
-    goes_then g.O.NoteOut.left _ _ _ (width env.units (value env room text) s.spot) last (nothing u.spot)
-    (width_goes g.O.NoteOut.left _ _ env.units (value env room text) s.spot t.spot u.spot c.units-units.result
-    (goes_then g.O.NoteOut.left _ _ _ (value env room text (inside s.spot)) (seq (nothing (inside s.spot)) (rest env room (text ∷ []))) (nothing t.spot) (goes_same g.O.NoteOut.left _ _ _ same) ran) (ap (λ (a : NestedSpot). a.spot) back) c.units-units.ensures.units)
-    (goes_same g.O.NoteOut.left _ last (nothing u.spot) (seq_ended u.spot (put (decimal c.units-units.result)) (gone _ (sym c.if-is_going.false ∙ c.is_going.ensures))))
-
-pub put_width-returns-else-is_going-clause-before : goal.put_width-returns-else-is_going-clause-before
-put_width-returns-else-is_going-clause-before g x c =
-    let env = surroundings_of c.args.env.now in
-    let s = c.args.self.now in
-    let room = c.args.room in
-    let text = c.args.text.now in
-    let t = c.run.new.self in
-    let outside' = c.go_inside-outside.ensures in
-    let ran = rw (c.new-sources.ensures, outside'.inside) at c.run.ensures.goes in
-    let kept = rw outside'.inside at c.run.ensures.before in
-    let back = rw (outside'.start, outside'.width_column, c.units-units.ensures.same) at c.go_outside.ensures ∙ goes_back env room text s t c.requires.going ran.1 kept in
-    ap (λ (a : NestedSpot). a.before) back
+    record {
+      goes = goes_then g.O.NoteOut.left _ _ _ (width env.units (value env c.args.room c.args.text.now) c.args.self.now.spot) last (nothing u.spot) read.0
+          (goes_same g.O.NoteOut.left _ last (nothing u.spot) (seq_ended u.spot (put (decimal c.units-units.result)) (gone _ (sym c.if-is_going.false ∙ c.is_going.ensures))));
+      before = read.1;
+    }
 
 -- ---- the run
 
