@@ -1,27 +1,23 @@
 -- The number that roff remembers is the one of its last line, whatever that line does: helpers of proofs.
 use Rattle.std.proofs.Common.{◌≡◌, ℕ, ◌==◌, Bool, true, false, is_some, List, [], ◌∷◌, length, Option, Some, None, refl, ap, ◌∙◌}
 use Rattle.std.specs.Prelude.{if◌then◌else◌}
-use Rattle.page_roff_syntax.specs.Requests.{request_of}
-use Rattle.page_roff_syntax.specs.declared.requests.Request.{Request}
-use Rattle.page_roff_syntax.specs.declared.requests.Request.TheVariants as requests
 use Rattle.page_roff_syntax.specs.declared.regions.RegionKind.{RegionKind}
 use Rattle.page_roff_syntax.specs.declared.regions.RegionKind.TheVariants.{Define, Append}
 use Rattle.page_roff_syntax.specs.LineForms.{form_of}
 use Rattle.page_roff_syntax.specs.declared.line_forms.LineForm.{LineForm}
 use Rattle.page_roff_syntax.specs.declared.line_forms.LineForm.TheVariants.{Control}
-use Rattle.page_roff_heads.specs.declared.loops.LoopHead.{LoopHead}
 use Rattle.page_roff_blocks.specs.Parts.{line_parts, loop_text}
 use Rattle.page_roff_syntax.specs.Regions.{Opened}
-use Rattle.page_roff_syntax.specs.declared.region_heads.RegionHead.{RegionHead}
 use Rattle.page_roff_values.specs.Values.{lines_in, expanded, units_of}
 use Rattle.page_roff_blocks.specs.machine.Languages.{Kind}
 use Rattle.page_roff_blocks.proofs.KeepLemmas.{IsIfSome, IsAny, HasLeaves, HasLoopTexts, any_leaves, any_lines}
 use Rattle.page_roff_blocks.proofs.KeepEffects.{IsKeptAfter, KeepsEffects, page_keeps}
-use Rattle.page_roff_effects.specs.Lines.{called_body, command_of, command_or, copies, request_command, call_if, ControlLine, does, command_outcome, control_line, control_outcome, form_outcome, leaf_outcome}
+use Rattle.page_roff_effects.specs.Lines.{command_of, copies, ControlLine, command_outcome, control_line, control_outcome, form_outcome, leaf_outcome}
 use Rattle.page_roff_effects.specs.States.{Memory, PartOutcome, Product, no_product, line_product, call_product, loop_product, counted, TextSetting, surroundings, nothing, budget_outcome, block_outcome, end_of_block_outcome}
 use Rattle.page_roff_effects.specs.laws.Views.{State, after}
-use Rattle.page_roff_effects.specs.Regions.{head_outcome, longer, longer_if, body_outcome, kind_outcome, line_outcome, end_outcome, body_freed, finish_region, finish_outcome, longer_if_some, loop_outcome, collect_outcome, repeats_text, close_outcome, body_in}
+use Rattle.page_roff_effects.specs.Regions.{body_outcome, kind_outcome, line_outcome, close_outcome, body_in}
 use Rattle.page_roff_effects.specs.machine.Effects.{effects, setting_of, tested_after, done_by, done_after}
+use Rattle.page_roff_effects.proofs.CountLemmas.{does_keeps, longer_keeps, head_keeps, end_keeps, finish_keeps, loop_keeps, collect_keeps, close_keeps}
 use Rattle.page_roff_source.specs.Runs.{RoffEdge, SourceLine, done}
 use Rattle.page_roff_source.specs.machine.Taking.{before_line, run_line, line_done}
 use Rattle.page_roff_source.specs.machine.LineByLine.{lines_done}
@@ -33,35 +29,14 @@ either_number false o p n h g = g
 
 -- ---- leaves
 
-call_number : (b : Bool) (text bytes : List ℕ) (m : Memory) → (call_if b text bytes m).memory.number ≡ m.number
-call_number true text bytes m = refl
-call_number false text bytes m = refl
-
-request_number : (may_call : Bool) (request : Option Request) (line : ControlLine) (text : List ℕ) (m : Memory)
-    → (does may_call (request_command request) line text m).memory.number ≡ m.number
-request_number may_call None line text m = refl
-request_number may_call (Some requests.If) line text m = refl
-request_number may_call (Some requests.IfElse) line text m = refl
-request_number may_call (Some requests.Else) line text m = refl
-request_number may_call (Some requests.While) line text m = refl
-request_number may_call (Some (requests.Region kind)) line text m = refl
-request_number may_call (Some (requests.Definition request)) line text m = refl
-request_number may_call (Some (requests.Layout request)) line text m = refl
-request_number may_call (Some requests.Ignored) line text m = refl
-request_number may_call (Some requests.Unsupported) line text m = refl
-
-does_number : (may_call : Bool) (called : Option (List ℕ)) (line : ControlLine) (text : List ℕ) (m : Memory)
-    → (does may_call (command_or line.name called) line text m).memory.number ≡ m.number
-does_number may_call None line text m = request_number may_call (request_of line.name) line text m
-does_number may_call (Some macro) line text m = call_number _ _ _ m
-
 -- a macro or a request, once its line is expanded
 control_number : (setting : TextSetting) (may_call : Bool) (line : ControlLine) (m : Memory) → (control_outcome setting may_call line m).memory.number ≡ m.number
-unfolding control_outcome command_outcome command_of
+unfolding control_outcome command_outcome
 control_number setting may_call line m =
-    let called = called_body line.name m.definitions in
-    let laid = expanded (surroundings (copies (command_or line.name called)) setting m) m.number line.text in
-    either_number (length line.name == 0) (nothing m) _ m.number refl (does_number may_call called line laid.edge.text (counted laid.edge.count m))
+    let command = command_of line.name m.definitions in
+    let laid = expanded (surroundings (copies command) setting m) m.number line.text in
+    either_number (length line.name == 0) (nothing m) _ m.number refl
+    (ap (λ (p : ℕ × ℕ). p.0) (does_keeps may_call command line laid.edge.text (counted laid.edge.count m)))
 
 form_number : (setting : TextSetting) (may_call : Bool) (raw : List ℕ) (form : LineForm (List ℕ)) (m : Memory)
     → (form_outcome setting may_call raw form m).memory.number ≡ m.number
@@ -75,18 +50,10 @@ leaf_number setting may_call raw m = form_number setting may_call raw (form_of r
 
 -- ---- regions
 
-longer_if_number : (b : Bool) (text : List ℕ) (m : Memory) → (longer_if b text m).memory.number ≡ m.number
-longer_if_number true text m = refl
-longer_if_number false text m = refl
-
-longer_number : (text : Option (List ℕ)) (line : List ℕ) (m : Memory) → (longer text line m).memory.number ≡ m.number
-longer_number None line m = refl
-longer_number (Some text) line m = longer_if_number _ _ m
-
 body_number : (setting : TextSetting) (line : List ℕ) (m : Memory) → (body_outcome setting line m).memory.number ≡ m.number
 body_number setting line m =
     let laid = expanded (surroundings true setting m) m.number line in
-    either_number (is_some m.body) _ _ m.number (longer_number m.body laid.edge.text (counted laid.edge.count m)) refl
+    either_number (is_some m.body) _ _ m.number (ap (λ (p : ℕ × ℕ). p.0) (longer_keeps m.body laid.edge.text (counted laid.edge.count m))) refl
 
 kind_number : (setting : TextSetting) (kind : RegionKind) (line : List ℕ) (m : Memory) → (kind_outcome setting kind line m).memory.number ≡ m.number
 kind_number setting Define line m = body_number setting line m
@@ -97,54 +64,6 @@ line_number : (setting : TextSetting) (o : Opened) (is_run : Bool) (line : List 
 unfolding line_outcome
 line_number setting o true line m = kind_number setting o.kind line m
 line_number setting o false line m = refl
-
-head_number : (head : RegionHead (List ℕ)) (is_run : Bool) (m : Memory) → (head_outcome head is_run m).memory.number ≡ m.number
-unfolding head_outcome
-head_number head true m = refl
-head_number head false m = refl
-
-freed_number : (is_run : Bool) (m : Memory) → (body_freed is_run m).number ≡ m.number
-freed_number true m = refl
-freed_number false m = refl
-
-end_number : (o : Opened) (is_run : Bool) (m : Memory) → (end_outcome o is_run m).memory.number ≡ m.number
-unfolding end_outcome
-end_number o true m = freed_number o.is_run m
-end_number o false m = freed_number o.is_run m
-
-region_number : (region : Option Opened) (gave_up : Bool) (m : Memory) → (finish_region region gave_up m).memory.number ≡ m.number
-region_number None gave_up m = refl
-region_number (Some o) gave_up m = freed_number o.is_run m
-
-finish_number : (region : Option Opened) (in_loop gave_up : Bool) (m : Memory) → (finish_outcome region in_loop gave_up m).memory.number ≡ m.number
-unfolding finish_outcome
-finish_number region true gave_up m = refl
-finish_number region false gave_up m = region_number region gave_up m
-
--- ---- loops
-
-more_number : (line : Option (List ℕ)) (m : Memory) → (longer_if_some line m).memory.number ≡ m.number
-more_number None m = refl
-more_number (Some line) m = longer_number m.body line m
-
-loop_number : (head : LoopHead (List ℕ)) (m : Memory) → (loop_outcome head m).memory.number ≡ m.number
-unfolding loop_outcome
-loop_number head m = more_number head.body (longer (Some []) head.condition m).memory ∙ longer_number (Some []) head.condition m
-
-collect_number : (is_run : Bool) (line : List ℕ) (m : Memory) → (collect_outcome is_run line m).memory.number ≡ m.number
-unfolding collect_outcome
-collect_number true line m = longer_number m.body line m
-collect_number false line m = refl
-
-repeats_number : (may_call : Bool) (text : Option (List ℕ)) (m : Memory) → (repeats_text may_call text m).memory.number ≡ m.number
-repeats_number may_call None m = refl
-repeats_number true (Some text) m = refl
-repeats_number false (Some text) m = refl
-
-close_number : (is_run may_call : Bool) (m : Memory) → (close_outcome is_run may_call m).memory.number ≡ m.number
-unfolding close_outcome
-close_number true may_call m = repeats_number may_call m.body _
-close_number false may_call m = refl
 
 -- ---- all effects
 
@@ -173,16 +92,16 @@ module _ (units : List ℕ → ℕ) (n : ℕ) where
         done_number o.product (after s o) (leaf_number (setting_of units kind) may_call text s.memory ∙ h);
     refuses = λ head s h. h;
     unopened = λ s h. h;
-    opens_region = λ kind head is_run s h. head_number head is_run s.memory ∙ h;
+    opens_region = λ kind head is_run s h. ap (λ (p : ℕ × ℕ). p.0) (head_keeps head is_run s.memory) ∙ h;
     reads = λ kind o is_run line s k t h. line_number (setting_of units kind) o is_run line s.memory ∙ h;
-    ends_region = λ kind o is_run line s h. end_number o is_run s.memory ∙ h;
-    opens_loop = λ head s t h. loop_number head s.memory ∙ h;
-    collects = λ is_run text s t h. collect_number is_run text s.memory ∙ h;
+    ends_region = λ kind o is_run line s h. ap (λ (p : ℕ × ℕ). p.0) (end_keeps o is_run s.memory) ∙ h;
+    opens_loop = λ head s t h. ap (λ (p : ℕ × ℕ). p.0) (loop_keeps head s.memory) ∙ h;
+    collects = λ is_run text s t h. ap (λ (p : ℕ × ℕ). p.0) (collect_keeps is_run text s.memory) ∙ h;
     closes = λ is_run may_run s h.
         let o = close_outcome is_run may_run s.memory in
-        done_number o.product (after s o) (close_number is_run may_run s.memory ∙ h);
+        done_number o.product (after s o) (ap (λ (p : ℕ × ℕ). p.0) (close_keeps is_run may_run s.memory) ∙ h);
     turns = λ kind condition s k t h. h;
-    finish = λ region in_loop gave_up s h. finish_number region in_loop gave_up s.memory ∙ h;
+    finish = λ region in_loop gave_up s h. ap (λ (p : ℕ × ℕ). p.0) (finish_keeps region in_loop gave_up s.memory) ∙ h;
   }
 
 -- ---- lines of the page

@@ -22,7 +22,7 @@ use Rattle.page_roff_blocks.specs.laws.Spent.{Spends}
 use Rattle.page_roff_effects.specs.declared.commands.Command.{Command}
 use Rattle.page_roff_effects.specs.declared.commands.Command.TheVariants as commands
 use Rattle.page_roff_effects.specs.Lines.{command_of, copies, call_if, ControlLine, does, command_outcome, control_outcome, form_outcome, leaf_outcome}
-use Rattle.page_roff_effects.specs.States.{Memory, PartOutcome, Product, line_product, sum_of_counts, TextSetting, surroundings, nothing, answer_of, budget_outcome, block_outcome, end_of_block_outcome}
+use Rattle.page_roff_effects.specs.States.{Memory, PartOutcome, Product, line_product, counted, sum_of_counts, TextSetting, surroundings, nothing, answer_of, budget_outcome, block_outcome, end_of_block_outcome}
 use Rattle.page_roff_effects.specs.laws.Views.{State}
 use Rattle.page_roff_effects.specs.laws.Views as states
 use Rattle.page_roff_effects.specs.Regions.{head_outcome, longer, longer_if, body_outcome, kind_outcome, line_outcome, end_outcome, body_freed, finish_region, finish_outcome, longer_if_some, loop_outcome, collect_outcome, repeats_text, close_outcome}
@@ -43,6 +43,11 @@ start_within line = record { text = omega arith; count = omega arith }
 
 expanded_few : (env : Surroundings) (line : ℕ) (text : List ℕ) → (expanded env line text).edge.count ≤ EXPAND
 expanded_few env line text = (value_within env NEST text (start line) (start_within line)).count
+
+-- ---- what a line does leaves the number of the last line, and the interpolations but for those of its own
+
+abbrev pub numbers : Memory → ℕ × ℕ
+numbers m = (m.number, m.expansions)
 
 -- ---- conditions
 
@@ -77,9 +82,8 @@ call_keeps : (b : Bool) (text bytes : List ℕ) (m : Memory) → (call_if b text
 call_keeps true text bytes m = refl
 call_keeps false text bytes m = refl
 
-does_keeps : (may_call : Bool) (command : Command) (line : ControlLine) (text : List ℕ) (m : Memory)
-    → (does may_call command line text m).memory.expansions ≡ m.expansions
-does_keeps may_call commands.Call line text m = ap (λ (m : Memory). m.expansions) (call_keeps _ _ _ m)
+pub does_keeps : (may_call : Bool) (command : Command) (line : ControlLine) (text : List ℕ) (m : Memory) → numbers (does may_call command line text m).memory ≡ numbers m
+does_keeps may_call commands.Call line text m = ap numbers (call_keeps _ _ _ m)
 does_keeps may_call _ line text m = refl
 
 command_few : (setting : TextSetting) (may_call : Bool) (command : Command) (line : ControlLine) (m : Memory)
@@ -87,8 +91,9 @@ command_few : (setting : TextSetting) (may_call : Bool) (command : Command) (lin
 unfolding command_outcome
 command_few setting may_call command line m =
     let laid = expanded (surroundings (copies command) setting m) m.number line.text in
-    rw (does_keeps may_call command line laid.edge.text _)
-    (few_counts m.expansions laid.edge.count (expanded_few (surroundings (copies command) setting m) m.number line.text))
+    let same : (does may_call command line laid.edge.text (counted laid.edge.count m)).memory.expansions ≡ (counted laid.edge.count m).expansions =
+    ap (λ (p : ℕ × ℕ). p.1) (does_keeps may_call command line laid.edge.text (counted laid.edge.count m)) in
+    rw same (few_counts m.expansions laid.edge.count (expanded_few (surroundings (copies command) setting m) m.number line.text))
 
 control_few_if : (b : Bool) (o : PartOutcome) (m : Memory) → IsFew m.expansions o.memory.expansions → IsFew m.expansions (if b then nothing m else o).memory.expansions
 control_few_if true o m h = omega arith
@@ -114,11 +119,11 @@ done_memory _ s = refl
 
 -- ---- regions
 
-longer_if_keeps : (b : Bool) (text : List ℕ) (m : Memory) → (longer_if b text m).memory.expansions ≡ m.expansions
+longer_if_keeps : (b : Bool) (text : List ℕ) (m : Memory) → numbers (longer_if b text m).memory ≡ numbers m
 longer_if_keeps true text m = refl
 longer_if_keeps false text m = refl
 
-longer_keeps : (text : Option (List ℕ)) (line : List ℕ) (m : Memory) → (longer text line m).memory.expansions ≡ m.expansions
+pub longer_keeps : (text : Option (List ℕ)) (line : List ℕ) (m : Memory) → numbers (longer text line m).memory ≡ numbers m
 longer_keeps None line m = refl
 longer_keeps (Some text) line m = longer_if_keeps _ _ m
 
@@ -129,58 +134,59 @@ body_few_if false o m h = omega arith
 body_few : (setting : TextSetting) (line : List ℕ) (m : Memory) → IsFew m.expansions (body_outcome setting line m).memory.expansions
 body_few setting line m =
     let laid = expanded (surroundings true setting m) m.number line in
-    body_few_if (is_some m.body) _ m (rw (longer_keeps m.body laid.edge.text _)
-    (few_counts m.expansions laid.edge.count (expanded_few (surroundings true setting m) m.number line)))
+    let same : (longer m.body laid.edge.text (counted laid.edge.count m)).memory.expansions ≡ (counted laid.edge.count m).expansions =
+    ap (λ (p : ℕ × ℕ). p.1) (longer_keeps m.body laid.edge.text (counted laid.edge.count m)) in
+    body_few_if (is_some m.body) _ m (rw same (few_counts m.expansions laid.edge.count (expanded_few (surroundings true setting m) m.number line)))
 
 kind_few : (setting : TextSetting) (kind : RegionKind) (line : List ℕ) (m : Memory) → IsFew m.expansions (kind_outcome setting kind line m).memory.expansions
 kind_few setting Define line m = body_few setting line m
 kind_few setting Append line m = body_few setting line m
 kind_few setting _ line m = omega arith
 
-head_keeps : (head : RegionHead (List ℕ)) (is_run : Bool) (m : Memory) → (head_outcome head is_run m).memory.expansions ≡ m.expansions
+pub head_keeps : (head : RegionHead (List ℕ)) (is_run : Bool) (m : Memory) → numbers (head_outcome head is_run m).memory ≡ numbers m
 unfolding head_outcome
 head_keeps head true m = refl
 head_keeps head false m = refl
 
-freed_keeps : (is_run : Bool) (m : Memory) → (body_freed is_run m).expansions ≡ m.expansions
+freed_keeps : (is_run : Bool) (m : Memory) → numbers (body_freed is_run m) ≡ numbers m
 freed_keeps true m = refl
 freed_keeps false m = refl
 
-end_keeps : (o : Opened) (is_run : Bool) (m : Memory) → (end_outcome o is_run m).memory.expansions ≡ m.expansions
+pub end_keeps : (o : Opened) (is_run : Bool) (m : Memory) → numbers (end_outcome o is_run m).memory ≡ numbers m
 unfolding end_outcome
 end_keeps o true m = freed_keeps o.is_run m
 end_keeps o false m = freed_keeps o.is_run m
 
-region_keeps : (region : Option Opened) (gave_up : Bool) (m : Memory) → (finish_region region gave_up m).memory.expansions ≡ m.expansions
+region_keeps : (region : Option Opened) (gave_up : Bool) (m : Memory) → numbers (finish_region region gave_up m).memory ≡ numbers m
 region_keeps None gave_up m = refl
 region_keeps (Some o) gave_up m = freed_keeps o.is_run m
 
-finish_keeps : (region : Option Opened) (in_loop gave_up : Bool) (m : Memory) → (finish_outcome region in_loop gave_up m).memory.expansions ≡ m.expansions
+pub finish_keeps : (region : Option Opened) (in_loop gave_up : Bool) (m : Memory) → numbers (finish_outcome region in_loop gave_up m).memory ≡ numbers m
 unfolding finish_outcome
 finish_keeps region true gave_up m = refl
 finish_keeps region false gave_up m = region_keeps region gave_up m
 
 -- ---- loops
 
-more_keeps : (line : Option (List ℕ)) (m : Memory) → (longer_if_some line m).memory.expansions ≡ m.expansions
+more_keeps : (line : Option (List ℕ)) (m : Memory) → numbers (longer_if_some line m).memory ≡ numbers m
 more_keeps None m = refl
 more_keeps (Some line) m = longer_keeps m.body line m
 
-loop_keeps : (head : LoopHead (List ℕ)) (m : Memory) → (loop_outcome head m).memory.expansions ≡ m.expansions
+pub loop_keeps : (head : LoopHead (List ℕ)) (m : Memory) → numbers (loop_outcome head m).memory ≡ numbers m
 unfolding loop_outcome
 loop_keeps head m = more_keeps head.body (longer (Some []) head.condition m).memory ∙ longer_keeps (Some []) head.condition m
 
-collect_keeps : (is_run : Bool) (line : List ℕ) (m : Memory) → (collect_outcome is_run line m).memory.expansions ≡ m.expansions
+pub collect_keeps : (is_run : Bool) (line : List ℕ) (m : Memory) → numbers (collect_outcome is_run line m).memory ≡ numbers m
 unfolding collect_outcome
 collect_keeps true line m = longer_keeps m.body line m
 collect_keeps false line m = refl
 
-repeats_keeps : (may_call : Bool) (text : Option (List ℕ)) (m : Memory) → (repeats_text may_call text m).memory.expansions ≡ m.expansions
+repeats_keeps : (may_call : Bool) (text : Option (List ℕ)) (m : Memory) → numbers (repeats_text may_call text m).memory ≡ numbers m
 repeats_keeps may_call None m = refl
 repeats_keeps true (Some text) m = refl
 repeats_keeps false (Some text) m = refl
 
-close_keeps : (is_run may_call : Bool) (m : Memory) → (close_outcome is_run may_call m).memory.expansions ≡ m.expansions
+pub close_keeps : (is_run may_call : Bool) (m : Memory) → numbers (close_outcome is_run may_call m).memory ≡ numbers m
 unfolding close_outcome
 close_keeps true may_call m = repeats_keeps may_call m.body _
 close_keeps false may_call m = refl
@@ -211,7 +217,7 @@ module _ (units : List ℕ → ℕ) where
   unfolding effects done_after
   closes_spends is_run may_call s =
       let o = close_outcome is_run may_call s.memory in
-      ap (λ (m : Memory). m.expansions) (done_memory o.product (states.after s o)) ∙ close_keeps is_run may_call s.memory
+      ap (λ (m : Memory). m.expansions) (done_memory o.product (states.after s o)) ∙ ap (λ (p : ℕ × ℕ). p.1) (close_keeps is_run may_call s.memory)
 
   reads_spends : (kind : Kind) (o : Opened) (line : List ℕ) (s : State)
       → expansions_of ((effects units).reads kind o true line s) ≤ expansions_of s + EXPAND
@@ -226,13 +232,13 @@ module _ (units : List ℕ → ℕ) where
     leaf = leaf_spends;
     refuses = λ h s. refl;
     unopened = λ s. refl;
-    opens_region = λ kind head is_run s. head_keeps head is_run s.memory;
+    opens_region = λ kind head is_run s. ap (λ (p : ℕ × ℕ). p.1) (head_keeps head is_run s.memory);
     reads = reads_spends;
     passes = λ kind o line s. refl;
-    ends_region = λ kind o is_run line s. end_keeps o is_run s.memory;
-    opens_loop = λ head s. loop_keeps head s.memory;
-    collects = λ is_run line s. collect_keeps is_run line s.memory;
+    ends_region = λ kind o is_run line s. ap (λ (p : ℕ × ℕ). p.1) (end_keeps o is_run s.memory);
+    opens_loop = λ head s. ap (λ (p : ℕ × ℕ). p.1) (loop_keeps head s.memory);
+    collects = λ is_run line s. ap (λ (p : ℕ × ℕ). p.1) (collect_keeps is_run line s.memory);
     closes = closes_spends;
     turns = turns_spends;
-    finish = λ region in_loop gave_up s. finish_keeps region in_loop gave_up s.memory;
+    finish = λ region in_loop gave_up s. ap (λ (p : ℕ × ℕ). p.1) (finish_keeps region in_loop gave_up s.memory);
   }

@@ -107,18 +107,23 @@ pub resumed_at : (output : Output) (p : Part) (m : Machine) → Resumes output p
     → edge_of m p.source remaining.Nothing ≡ edge_at output p
 resumed_at output p m h = resumed_edge output p m h (idle_stands m (resumed_idle output p.place p.memory p.taken m h))
 
+-- the machine is at this edge
+at_edge : (m : Machine) (source : ℕ) (left : Remaining) (e : RoffEdge) → edge_of m source left ≡ e → IsIdleAs left m → IsCounted e → HoldsTexts e.memory → AreGiven (given_of e)
+    → IsAtEdge m source left
+at_edge m source left e same idle counted texts given =
+    record {
+      idle = idle;
+      counted = subst IsCounted (sym same) counted;
+      texts = subst (λ (x : RoffEdge). HoldsTexts x.memory) (sym same) texts;
+      given = subst (λ (x : RoffEdge). AreGiven (given_of x)) (sym same) given;
+    }
+
 pub resumed_invariant : (output : Output) (p : Part) (m : Machine) → IsPart p → Resumes output p.place p.memory p.taken m
     → IsAtEdge m p.source remaining.Nothing
 unfolding AreGiven
 resumed_invariant output p m k h =
-    let e = resumed_at output p m h in
-    let counted : IsCounted (edge_at output p) = record { source = k.source; taken = k.taken; skipped = k.skipped } in
-    record {
-      idle = resumed_idle output p.place p.memory p.taken m h;
-      counted = subst IsCounted (sym e) counted;
-      texts = subst (λ (x : RoffEdge). HoldsTexts x.memory) (sym e) k.texts;
-      given = tt;
-    }
+    at_edge m p.source remaining.Nothing (edge_at output p) (resumed_at output p m h) (resumed_idle output p.place p.memory p.taken m h)
+    (record { source = k.source; taken = k.taken; skipped = k.skipped }) k.texts tt
 
 -- the part that is held where all was given
 pub part_at : (m : Machine) (source : ℕ) (left : Remaining) → IsAtEdge m source left → (edge_of m source left).to_come ≡ None
@@ -240,12 +245,7 @@ idle_unless false m h = h
 
 pub new_invariant : (output : Output) (m : Machine) → IsNew output m → IsAtEdge m 0 remaining.Nothing
 unfolding AreGiven
-new_invariant output m n = record {
-  idle = new_idle output m n;
-  counted = subst IsCounted (sym (new_at output m n)) (new_counted output);
-  texts = subst (λ (e : RoffEdge). HoldsTexts e.memory) (sym (new_at output m n)) first_holds;
-  given = tt;
-}
+new_invariant output m n = at_edge m 0 remaining.Nothing (first_edge output) (new_at output m n) (new_idle output m n) (new_counted output) first_holds tt
 
 pub begin_room : (m : Machine) (source : ℕ) (left : Remaining) → IsAtEdge m source left → (edge_of m source left).to_come ≡ None
     → (m.budget.taken ≤ 2 ^ 62) × (m.stack.top.cursor.levels.skipped < 2 ^ 62)
@@ -275,12 +275,7 @@ begun_invariant : (e : RoffEdge) (new : Machine) (source : ℕ) (left : Remainin
     → IsLine line.text → edge_of new (source + 1) left ≡ run_begun e line → IsIdleAs left new → IsAtEdge new (source + 1) left
 begun_invariant e new source left line c h few t same idle =
     let k = line_texts e line h t in
-    record {
-      idle = idle;
-      counted = subst IsCounted (sym same) (begun_counted e line c few t.bounded);
-      texts = subst (λ (x : RoffEdge). HoldsTexts x.memory) (sym same) k.memory;
-      given = subst (λ (x : RoffEdge). AreGiven (given_of x)) (sym same) k.out;
-    }
+    at_edge new (source + 1) left (run_begun e line) same idle (begun_counted e line c few t.bounded) k.memory k.out
 
 pub begin_invariant : (old new : Machine) (source : ℕ) (left : Remaining) (line : List ℕ) (number : ℕ) → IsAtEdge old source left
     → (edge_of old source left).to_come ≡ None → Begins line number old new → source < 2 ^ 31 → IsLine line → IsAtEdge new (source + 1) remaining.Run
@@ -356,15 +351,10 @@ lend_invariant old new source left None line number p none e t few l = absurd (c
 lend_invariant old new source left (Some taken) line number p none e t few l =
     let s : SourceLine = record { text = line; number = number; notes = [] } in
     let before = edge_of old source left in
-    let same = sym (lend_takes old new source left (Some taken) line number p none e t l).1 in
     let c = begun_counted before s p.counted few l.bounded in
-    let counted : IsCounted (line_done before s) = record { source = c.source; taken = c.taken; skipped = c.skipped } in
-    record {
-      idle = subst (λ (r : Remaining). IsIdleAs r new) (sym (nothing_left old source left none)) t.idle;
-      counted = subst IsCounted same counted;
-      texts = subst (λ (x : RoffEdge). HoldsTexts x.memory) same (line_texts before s p.texts l).memory;
-      given = subst (λ (x : RoffEdge). AreGiven (given_of x)) same tt;
-    }
+    at_edge new (source + 1) left (line_done before s) (lend_takes old new source left (Some taken) line number p none e t l).1
+    (subst (λ (r : Remaining). IsIdleAs r new) (sym (nothing_left old source left none)) t.idle)
+    (record { source = c.source; taken = c.taken; skipped = c.skipped }) (line_texts before s p.texts l).memory tt
 
 -- after the line that was taken at once
 pub line_invariant : (m : Machine) (source : ℕ) (left : Remaining) → IsAtEdge m source left → left ≡ remaining.Line → IsAtEdge m source remaining.End
@@ -410,13 +400,8 @@ told_runs_on left m source _ old s e v = absurd (cc)
 advance_done : {P S : Type 0} (left : P → S → List Message → Type 0) (old new : Machine) (source : ℕ) (s t : S) (result : Bool)
     → IsAtEdge old source remaining.Run → Advances left old s result new t → IsAtEdge new source (run_if result)
 advance_done left old new source s t result p a =
-    let same = sym (advanced left old new source s t result a) in
-    record {
-      idle = idle_unless result new a.idle;
-      counted = subst IsCounted same (record { source = p.counted.source; taken = p.counted.taken; skipped = p.counted.skipped });
-      texts = subst (λ (x : RoffEdge). HoldsTexts x.memory) same p.texts;
-      given = subst (λ (x : RoffEdge). AreGiven (given_of x)) same (taken_is (edge_of old source remaining.Run) p.given);
-    }
+    at_edge new source (run_if result) (line_taken (edge_of old source remaining.Run)) (advanced left old new source s t result a) (idle_unless result new a.idle)
+    (record { source = p.counted.source; taken = p.counted.taken; skipped = p.counted.skipped }) p.texts (taken_is (edge_of old source remaining.Run) p.given)
 
 -- it runs on where the machine has something to run
 pub advance_at : {P S : Type 0} (left : P → S → List Message → Type 0) (old new : Machine) (source : ℕ) (r : Remaining) (s t : S) (result : Bool)
