@@ -59,31 +59,24 @@ start-by-mask (suc k) (b ∷ bytes) within =
     let m = mask_l (map is_blank bytes) in
     one-more k m (word_start bytes) (is_blank b) (start-by-mask k bytes (omega (arith, within))) (long-enough k (map is_blank bytes) (omega (arith, within, length-map bytes is_blank)))
 
+-- one lane more
+bit-mask : (bit m low n : ℕ) → bit < 2 → m % 2 ^ n ≡ low → (bit + 2 * m) % 2 ^ suc n ≡ bit + 2 * low
+bit-mask bit m low n small others =
+    let half : (bit + 2 * m) / 2 ^ 1 ≡ m = omega arith in
+    let least : (bit + 2 * m) % 2 ^ 1 ≡ bit = omega arith in
+    let one : suc n ≡ n + 1 = omega arith in
+    let double : low * 2 + bit ≡ bit + 2 * low = omega arith in
+    ap (λ k. (bit + 2 * m) % 2 ^ k) one
+    ∙ (mod-pow-add (bit + 2 * m) n 1
+    ∙ (ap (λ h. h % 2 ^ n * 2 ^ 1 + (bit + 2 * m) % 2 ^ 1) half ∙ (ap (λ l. m % 2 ^ n * 2 + l) least ∙ (ap (λ h. h * 2 + bit) others ∙ double))))
+
 -- the lowest bits of a mask are those of the first lanes
 front-mask : (bits : List Bool) (n : ℕ) → mask_l bits % 2 ^ n ≡ mask_l (take n bits)
 front-mask [] zero = refl
 front-mask [] (suc n) = mask_l-mod [] (suc n) (omega arith)
 front-mask (b ∷ bits) zero = omega arith
-front-mask (true ∷ bits) (suc n) =
-    let m = mask_l bits in
-    let half : (1 + 2 * m) / 2 ^ 1 ≡ m = omega arith in
-    let low : (1 + 2 * m) % 2 ^ 1 ≡ 1 = omega arith in
-    let one : suc n ≡ n + 1 = omega arith in
-    let others = front-mask bits n in
-    let double : mask_l (take n bits) * 2 + 1 ≡ 1 + 2 * mask_l (take n bits) = omega arith in
-    ap (λ k. (1 + 2 * m) % 2 ^ k) one
-    ∙ (mod-pow-add (1 + 2 * m) n 1
-    ∙ (ap (λ h. h % 2 ^ n * 2 ^ 1 + (1 + 2 * m) % 2 ^ 1) half ∙ (ap (λ l. m % 2 ^ n * 2 + l) low ∙ (ap (λ h. h * 2 + 1) others ∙ double))))
-front-mask (false ∷ bits) (suc n) =
-    let m = mask_l bits in
-    let half : (0 + 2 * m) / 2 ^ 1 ≡ m = omega arith in
-    let low : (0 + 2 * m) % 2 ^ 1 ≡ 0 = omega arith in
-    let one : suc n ≡ n + 1 = omega arith in
-    let others = front-mask bits n in
-    let double : mask_l (take n bits) * 2 + 0 ≡ 0 + 2 * mask_l (take n bits) = omega arith in
-    ap (λ k. (0 + 2 * m) % 2 ^ k) one
-    ∙ (mod-pow-add (0 + 2 * m) n 1
-    ∙ (ap (λ h. h % 2 ^ n * 2 ^ 1 + (0 + 2 * m) % 2 ^ 1) half ∙ (ap (λ l. m % 2 ^ n * 2 + l) low ∙ (ap (λ h. h * 2 + 0) others ∙ double))))
+front-mask (true ∷ bits) (suc n) = bit-mask 1 (mask_l bits) (mask_l (take n bits)) n (omega arith) (front-mask bits n)
+front-mask (false ∷ bits) (suc n) = bit-mask 0 (mask_l bits) (mask_l (take n bits)) n (omega arith) (front-mask bits n)
 
 -- the letters after the last blank of some first lanes
 pub front-start : (v : List ℕ) (n : ℕ) → length v ≡ 16 → n ≤ 16

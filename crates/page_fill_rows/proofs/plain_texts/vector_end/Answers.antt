@@ -13,20 +13,12 @@ returns-then-blanks-eq0-clause-value c =
     let all = leading_from_mask_l is_blank v none in
     omega (arith, all, long)
 
-pub returns-clause-value : goal.returns-clause-value
-returns-clause-value c =
-    let v = c.args.bytes in
-    let long = c.fits-bytes.0 in
-    let mask = bitmask_splat w8 eqb v 16 32 long (omega arith) in
-    let some : 0 < mask_l (map is_blank v) = omega (arith, mask, c.if-blanks-eq0.false) in
-    rw mask (trailing_mask_l is_blank 64 v (omega (arith, long)) some)
-
-pub returns-clause-bound : goal.returns-clause-bound
-returns-clause-bound c =
+pub returns : goal.returns
+returns c =
     let v = c.args.bytes in
     let long = c.fits-bytes.0 in
     let mask = bitmask_splat w8 eqb v 16 32 long (omega arith) in
     let some : 0 < mask_l (map is_blank v) = omega (arith, mask, c.if-blanks-eq0.false) in
     let is = trailing_mask_l is_blank 64 v (omega (arith, long)) some in
     let least = prefix_len-le-length (λ b. not (b == 32)) v in
-    rw mask (omega (arith, is, least, long))
+    record { value = rw mask is; bound = rw mask (omega (arith, is, least, long)) }
