@@ -10,7 +10,7 @@ use Rattle.page_roff_lines.specs.laws.Views.{newline, carriage_return}
 use Rattle.page_roff_lines.specs.Lines.{backslash}
 use Rattle.page_roff_lines.specs.machine.Held.{Held, nothing_held, extend}
 use Rattle.page_roff_lines.specs.machine.Open.{Open, restart, next_open, put_byte, put_in, put_plain, put_newline, without_return, newline_in, close, put, count_byte, ends_mark, mark_after, if_whole, whole_lines, open_after}
-use Rattle.page_roff_lines.specs.machine.Run.{InText, ends_run, is_settled, run_in, with_run}
+use Rattle.page_roff_lines.specs.machine.Run.{ends_run, is_settled, run_in, with_run}
 
 -- no byte of the run ends it
 pub record IsRun (o : Open) (run : List ℕ) : Type 0 where
@@ -177,10 +177,3 @@ unfolding next_open put_byte put_newline without_return newline_in close count_b
 newline-st t g n p k Absent h = refl
 newline-st t g n p k Present h = refl
 newline-st t g n p k _ h = cc
-
-newline-any : (w : Bool) (m : Mode) (t : Held) (r g : Bool) (n p k : ℕ) (a : Mark) → w ≡ false → m ≡ Plain → r ≡ false → is_settled a ≡ true
-    → next_open (any w m t r g n p k a) newline ≡ any true Plain t false false n (p + 1) (k + 1) a
-newline-any w m t r g n p k a e f h s = rw (e, f, h) (newline-st t g n p k a s)
-
-pub text-newline : (o : Open) → InText o → next_open o newline ≡ any true Plain o.text false false o.number (o.physical + 1) (o.consumed + 1) o.mark
-text-newline o is = newline-any o.whole o.mode o.text o.after_return o.begun o.number o.physical o.consumed o.mark is.unfinished is.plain is.no_return is.settled

@@ -113,7 +113,7 @@ fn pair_mode(byte: u8) -> Mode
 impl OpenLine {
     ghost use Rattle.page_roff_lines.specs.machine.Open.{first_open, restart, put, put_plain, put_pair, put_in, without_return, newline_in, put_newline, next_open, end_open, count_byte, close, ends_mark, open_after, whole_lines, kept_of, is_marked};
     ghost use Rattle.page_roff_lines.specs.laws.Views.{newline};
-    ghost use Rattle.page_roff_lines.specs.machine.Run.{InText, IsFine, IsRead, ReadsText, with_run};
+    ghost use Rattle.page_roff_lines.specs.machine.Run.{IsFine, IsRead, ReadsText, with_run};
 
     /// Before the first byte of a page, with the memory that it will ever hold.
     pub fn new(alloc: Global) -> Result<OpenLine, AllocError>
@@ -273,29 +273,6 @@ impl OpenLine {
         self.mark = self.mark.after(byte);
     }
 
-    // Whether a line feed here ends a line that is open, and takes nothing away.
-    fn is_in_text(&self) -> bool
-        ensures { result ≡ true → InText self.now }
-    {
-        self.mark.is_settled()
-            && !self.whole
-            && !self.after_return
-            && matches!(self.mode, Mode::Plain)
-    }
-
-    // Reads a line feed after text.
-    #[tactic(auto, unfolding(crate::specs::machine::Open::close))]
-    fn end_text(&mut self)
-        requires text { InText self.old }
-        requires consumed { self.old.consumed + 1 < 2 ^ 31 }
-        ensures after { self.new ≡ next_open self.old newline }
-        ensures whole { self.new.whole ≡ true }
-    {
-        self.consumed += 1;
-        self.close();
-        self.begin_physical();
-    }
-
     // Reads a byte; whether the line is whole with it.
     #[tactic(auto, unfolding(crate::specs::machine::Open::next_open, crate::specs::machine::Open::put_byte, crate::specs::machine::Open::count_byte, crate::specs::machine::Open::restart))]
     fn take_byte(&mut self, byte: u8) -> bool
@@ -303,10 +280,6 @@ impl OpenLine {
         ensures after { self.new ≡ next_open self.old byte }
         ensures whole { result ≡ self.new.whole }
     {
-        if byte == NEWLINE && self.is_in_text() {
-            self.end_text();
-            return true;
-        }
         let ends_mark = self.mark.ends_at(byte);
         self.restart();
         self.count(byte);

@@ -6,28 +6,18 @@ use Rattle.page_core_base.specs.Messages.{Message}
 use Rattle.page_core_base.specs.declared.page_settings.Output.{Output}
 use Rattle.page_roff_blocks.specs.machine.Run.{At}
 use Rattle.page_core_base.specs.laws.Views.{Came}
-use Rattle.page_roff_blocks.specs.Forest.{outside}
-use Rattle.page_roff_blocks.specs.laws.Views.{at_line, after_part}
-use Rattle.page_roff_values.specs.Values.{arguments_in}
-use Rattle.page_roff_blocks.specs.machine.Languages.{body, finish_at}
-use Rattle.page_roff_blocks.specs.machine.Machine.{next, next_in, source_next, body_next, entered, at_part}
+use Rattle.page_roff_blocks.specs.machine.Machine.{next}
 use Rattle.page_roff_effects.specs.machine.Acting.{acting_effects, measured}
-use Rattle.page_roff_effects.specs.declared.commands.ProductKind.TheVariants as kinds
-use Rattle.page_roff_effects.specs.Regions.{finish_outcome}
-use Rattle.page_roff_stack.specs.machine.Changes.{past}
-use Rattle.page_roff_machine.specs.declared.budgeted_actions.BudgetedActions.{BudgetedActions}
-use Rattle.page_roff_machine.specs.declared.acts.Act.TheVariants as acts
-use Rattle.page_roff_machine.proofs.GoLemmas.{quiet_product, shifts_call}
 use Rattle.page_roff_blocks.specs.machine.Measures.{measure, HasMeasure, HasBodyWithin, IsFirst, credit}
-use Rattle.page_roff_blocks.specs.machine.Budgets.{Budgeted, language, with_rest}
+use Rattle.page_roff_blocks.specs.machine.Budgets.{Budgeted, language}
 use Rattle.page_roff_blocks.specs.machine.Fronts.{over}
 use Rattle.page_roff_blocks.proofs.MeasureLemmas.{next_falls}
 use Rattle.page_roff_blocks.proofs.OnLineLemmas.{first_falls}
-use Rattle.page_roff_effects.specs.machine.Effects.{effects, in_front}
+use Rattle.page_roff_effects.specs.machine.Effects.{in_front}
 use Rattle.page_roff_effects.specs.laws.Views.{State}
 use Rattle.page_roff_effects.specs.States.{Given, says, takes}
 use Rattle.page_roff_stack.specs.declared.next.Next.TheVariants.{Nothing}
-use Rattle.page_roff_stack.specs.machine.Stacks.{Stack, running, with_top, call_of, next_of, is_nothing, step_in}
+use Rattle.page_roff_stack.specs.machine.Stacks.{Stack, running, next_of, is_nothing, step_in}
 use Rattle.page_roff_machine.specs.declared.acts.Act.{Act}
 use Rattle.page_roff_machine.specs.declared.acts.Progress.{Progress}
 use Rattle.page_roff_machine.specs.declared.acts.Progress.TheVariants.{More, Line, Done}
@@ -35,8 +25,8 @@ use Rattle.page_roff_machine.specs.declared.runners.Runner.{Runner}
 use Rattle.page_roff_machine.specs.machine.Doing.{IsIn, output_of, state_in}
 use Rattle.page_roff_machine.specs.Giving.{notes_before, next_line, after_line}
 use Rattle.page_roff_machine.specs.machine.Machines.{Machine, outcome_of, to_come, end_of, hushed, Advances}
-use Rattle.page_roff_machine.specs.machine.Moving.{moved, reached_with, called, with_arguments_of, CanBegin, AreKept, frames_of, IsBodyWithin, IfDone, Suits, HUGE, Decides, Moves}
-use Rattle.page_roff_machine.specs.machine.Stepping.{machine_of, IsMeasured, IsSound, Steps, StepsTwice, StepsOn, Leads}
+use Rattle.page_roff_machine.specs.machine.Moving.{moved, reached_with, AreKept, frames_of, IsBodyWithin, IfDone, Suits, HUGE, Decides, Moves}
+use Rattle.page_roff_machine.specs.machine.Stepping.{machine_of, IsMeasured, IsSound, Steps, Leads}
 use Rattle.page_roff_machine.proofs.ActLemmas.{step_next, is_nothing_next}
 use Rattle.page_roff_machine.proofs.DoingLemmas.{came_none, came_both, said}
 use Rattle.page_roff_machine.proofs.FrameLemmas.{same_source}
@@ -230,85 +220,3 @@ module _ {P S : Type 0} (left : P → S → List Message → Type 0) where
 
   pub sound_done : (old new : Runner) (out out_new : S) → IsSound old → Steps left old out Done new out_new → IsSound new
   sound_done old new out out_new h s = rw s.done.0 h
-
-  -- ---- a macro of which nothing runs is called, and ends
-
-  ends_at_once : (old inside : Runner) (packed : List ℕ) (out : S) → IsIn old.stack.top.kind old.doing
-      → inside ≡ with_arguments_of (body (Some (arguments_in packed))) (record { stack = call_of [] packed old.stack; doing = old.doing })
-      → Steps left inside out More old out
-  unfolding next next_in source_next body_next finish_at language with_rest effects finish_outcome entered outside at_line reached_with arguments_in
-  ends_at_once old inside packed out k e =
-      let under : inside.stack.under ≡ old.stack.top ∷ old.stack.under = ap (λ (r : Runner). r.stack.under) e in
-      let longer : length inside.stack.under ≡ suc (length old.stack.under) = ap length under in
-      record {
-        output = sym (ap (λ (r : Runner). output_of r.doing) e);
-        setting = k;
-        notes = [];
-        came = came_none left out;
-        step = rw e refl;
-        body = record { begins = λ h. absurd (omega arith); turns = λ h t. absurd (omega arith) };
-        frames = λ h. (rw under at h.1);
-        done = tt;
-      }
-
-  pub calls_macro : (old mid passed new : Runner) (out out_mid : S) (act : Act) → IsIn old.stack.top.kind old.doing
-      → Decides left old out act mid out_mid → act ≡ acts.Leaf kinds.Call
-      → passed ≡ record { stack = with_top (past (after_part mid.stack.top.cursor.levels) mid.stack.top) mid.stack; doing = mid.doing }
-      → new ≡ called passed → Steps left old out More new out_mid
-  calls_macro old mid passed new out out_mid act k a em e en =
-      let d = decided old mid out out_mid act k a in
-      let suits : CanBegin kinds.Call mid.stack mid.doing = rw em at d.1 in
-      steps old mid new out out_mid out_mid act More a (rw em (quiet_product left mid new out_mid (acts.Leaf kinds.Call) kinds.Call (shifts_call mid passed new e en suits)))
-
-  pub calls_nothing : (old mid new : Runner) (out out_mid : S) (act : Act) → IsIn old.stack.top.kind old.doing
-      → Decides left old out act mid out_mid → act ≡ acts.Leaf kinds.Call → mid.doing.actions.call.body ≡ []
-      → new ≡ record { stack = with_top (past (after_part mid.stack.top.cursor.levels) mid.stack.top) mid.stack; doing = mid.doing }
-      → StepsTwice left old out More new out_mid
-  unfolding at_part after_part
-  calls_nothing old mid new out out_mid act k a em eb e =
-      let inside = called new in
-      let d = decided old mid out out_mid act k a in
-      let is : IsIn new.stack.top.kind new.doing = rw e d.0 in
-      let doing : new.doing ≡ mid.doing = ap (λ (r : Runner). r.doing) e in
-      let empty : new.doing.actions.call.body ≡ [] = ap (λ (b : BudgetedActions). b.actions.call.body) doing ∙ eb in
-      record {
-        more = refl;
-        inside = inside;
-        call = calls_macro old mid new inside out out_mid act k a em e refl;
-        end = ends_at_once new inside new.doing.actions.call.packed out_mid is (rw empty refl);
-      }
-
-  -- ---- one step, or two
-
-  pub leads_once : (old new : Runner) (out out_new : S) → StepsOn left old out More new out_new
-      → Leads left (machine_of old) out (machine_of new) out_new
-  leads_once old new out out_new s =
-      elim s [
-        | inl one ↦ leads old new out out_new one
-        | inr two ↦
-            leads_on (machine_of old) (machine_of two.inside) (machine_of new) out out_new out_new (leads old two.inside out out_new two.call) (leads two.inside new out_new out_new two.end)
-      ]
-
-  pub measured_once : (old new : Runner) (out out_new : S) → IsMeasured old → StepsOn left old out More new out_new → (suc (work_of new) ≤ work_of old) × IsMeasured new
-  measured_once old new out out_new h s =
-      elim s [
-        | inl one ↦ measured_more old new out out_new h one
-        | inr two ↦
-            let a = measured_more old two.inside out out_new h two.call in
-            let b = measured_more two.inside new out_new out_new a.1 two.end in
-            (omega (arith, a.0, b.0), b.1)
-      ]
-
-  pub sound_once : (old new : Runner) (out out_new : S) → IsSound old → StepsOn left old out More new out_new → IsMeasured new
-  sound_once old new out out_new h s =
-      elim s [
-        | inl one ↦ sound_more old new out out_new h one
-        | inr two ↦ (measured_more two.inside new out_new out_new (sound_more old two.inside out out_new h two.call) two.end).1
-      ]
-
-  -- a line, or the end, comes with one step
-  pub line_once : (old new : Runner) (out out_new : S) → StepsOn left old out Line new out_new → Steps left old out Line new out_new
-  line_once old new out out_new s = elim s [ inl one ↦ one | inr two ↦ let e = two.more in absurd (cc) ]
-
-  pub done_once : (old new : Runner) (out out_new : S) → StepsOn left old out Done new out_new → Steps left old out Done new out_new
-  done_once old new out out_new s = elim s [ inl one ↦ one | inr two ↦ let e = two.more in absurd (cc) ]

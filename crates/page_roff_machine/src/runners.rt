@@ -12,7 +12,7 @@ ghost use Rattle.page_roff_machine.specs.machine.Doing.{IsIn};
 ghost use Rattle.page_roff_machine.specs.machine.Machines.{Advances};
 ghost use Rattle.page_roff_machine.specs.machine.Moving.{Collects, Decides, Moves, Closes, Shifts, Repeats, Suits, CanBegin, called, passes_block, progress_as, way_after, with_arguments_of};
 ghost use Rattle.page_roff_machine.specs.machine.AtOnce.{Enters, IsOutside, TakesAtOnceIf};
-ghost use Rattle.page_roff_machine.specs.machine.Stepping.{IsSound, IsMeasured, Steps, StepsOn, machine_of};
+ghost use Rattle.page_roff_machine.specs.machine.Stepping.{IsSound, IsMeasured, Steps, machine_of};
 
 use crate::acts::{Act, Progress};
 use crate::budgeted_actions::BudgetedActions;
@@ -324,31 +324,22 @@ impl Runner {
         Progress::More
     }
 
-    // Makes one step after the beginning of a line, or two: a macro without a body is called and ends.
+    // Makes one step after the beginning of a line.
     #[inline(never)]
     fn step_on<O: NoteOut>(&mut self, out: &mut O) -> Progress
         requires sound { IsSound self.old }
         requires begun { is_line (next_of self.old.stack) ≡ false }
         requires left { is_nothing (next_of self.old.stack) ≡ false }
-        ensures { StepsOn O.left self.old out.old result self.new out.new }
+        ensures { Steps O.left self.old out.old result self.new out.new }
     {
         let act = self.act(out);
-        match act {
-            Act::Leaf(ProductKind::Call) => {
-                self.stack.go(Movement::Part(Pass::Leaf));
-                if !self.doing.actions.called_body().is_empty() {
-                    self.call();
-                }
-                Progress::More
-            }
-            _ => self.go(act, out),
-        }
+        self.go(act, out)
     }
 
-    // Makes one step, or two. The first and the last one of a source line are asked for first: each line has them.
+    // Makes one step. The first and the last one of a source line are asked for first: each line has them.
     fn step<O: NoteOut>(&mut self, out: &mut O) -> Progress
         requires { IsSound self.old }
-        ensures { StepsOn O.left self.old out.old result self.new out.new }
+        ensures { Steps O.left self.old out.old result self.new out.new }
     {
         if self.stack.begins_line() {
             self.begin_line(out);

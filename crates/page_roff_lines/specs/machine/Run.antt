@@ -77,10 +77,3 @@ IsText bytes = (o : Open) → ReadsText o → IsRead o bytes
 pub record IsFine (bytes : List ℕ) : Type 0 where
   pub text : IsText bytes
   pub printable : list_all is_printable bytes ≡ true
-
--- a line feed here ends a line that is open, and takes nothing away
-pub record InText (o : Open) : Type 0 where
-  pub settled : is_settled o.mark ≡ true
-  pub unfinished : o.whole ≡ false
-  pub no_return : o.after_return ≡ false
-  pub plain : o.mode ≡ Plain

@@ -9,7 +9,6 @@ use Rattle.page_roff_effects.specs.machine.Acting.{acting_effects}
 use Rattle.page_roff_effects.specs.States.{says}
 use Rattle.page_roff_stack.specs.machine.Stacks.{running, next_of, is_nothing}
 use Rattle.page_roff_machine.specs.declared.acts.Progress.{Progress}
-use Rattle.page_roff_machine.specs.declared.acts.Progress.TheVariants.{More}
 use Rattle.page_roff_machine.specs.declared.runners.Runner.{Runner}
 use Rattle.page_roff_machine.specs.Giving.{notes_before, next_line, after_line}
 use Rattle.page_roff_machine.specs.machine.Machines.{Machine, to_come, end_of}
@@ -49,18 +48,6 @@ pub record Steps {P S : Type 0} (left : P → S → List Message → Type 0) (ol
   pub body : IsBodyWithin old.stack new.stack
   pub frames : AreKept (frames_of old.stack) → AreKept (frames_of new.stack)
   pub done : IfDone result ((new ≡ old) × (notes ≡ []) × (is_nothing (next_of old.stack) ≡ true))
-
--- Two steps were made: a macro was called of which nothing runs, and it ended.
-pub record StepsTwice {P S : Type 0} (left : P → S → List Message → Type 0) (old : Runner) (out : S)
-    (result : Progress) (new : Runner) (out_new : S) : Type 0 where
-  pub more : result ≡ More
-  pub inside : Runner
-  pub call : Steps left old out More inside out_new
-  pub end : Steps left inside out_new More new out_new
-
-abbrev pub StepsOn : {P S : Type 0} → (P → S → List Message → Type 0) → Runner → S → Progress → Runner → S → Type 0
-StepsOn left old out result new out_new =
-    Steps left old out result new out_new ⊎ StepsTwice left old out result new out_new
 
 -- Steps were made without a line: what is to come is the same but for the messages that came.
 pub record Leads {P S : Type 0} (left : P → S → List Message → Type 0) (old : Machine) (out : S)
