@@ -13,8 +13,8 @@ NUMBER = re.compile(r"0x[0-9a-fA-F_]+|\d[\d_]*")
 ESCAPE = re.compile(r"\\(?:u\{([0-9a-fA-F]+)\}|(.))")
 LETTERS = {"n": "\n", "t": "\t", "r": "\r", "0": "\0"}
 ENDS = {")", ",", ";", "}", "then", "else", "in", "="}
-# the built-in proof of what always holds
-BUILT_IN = {"tt": Meaning("proof", "tt")}
+# the built-in proof of what always holds, and the tactic that finds the proof of a bound by facts of numbers
+BUILT_IN = {name: Meaning("proof", name) for name in ("tt", "omega", "arith")}
 
 
 class Dot(str):
@@ -267,6 +267,10 @@ class Reader:
             return ("text", quoted(self.next()))
         if NUMBER.fullmatch(word):
             return ("number", int(self.next().replace("_", ""), 0))
+        if word == "∣":
+            # (a witness of what a ghost field says is a proof)
+            self.skip("∣", "∣₁")
+            return ("meaning", BUILT_IN["tt"])
         if word == "_":
             self.next()
             return ("tuple", [])

@@ -1,11 +1,10 @@
 -- What tokens print, and its columns: helpers of proofs.
-use Rattle.std.proofs.Common.{◌≡◌, ℕ, ◌+◌, ◌-◌, ◌<◌, ◌≤◌, ◌*◌, ◌==◌, nat_lt, true, false, List, [], ◌∷◌, ◌++◌, length, replicate, codes, refl, ap, sym, ◌∙◌, arith, inl, inr, append_assoc, IsAscii, IsUtf8, chars, encode_utf8}
-use Rattle.std.specs.Str.{is_utf8}
-use Rattle.std.proofs.lemmas.Bool.{and_parts, cases_Bool}
+use Rattle.std.proofs.Common.{◌≡◌, ℕ, ◌+◌, ◌-◌, ◌<◌, ◌≤◌, ◌*◌, ◌==◌, nat_lt, true, false, List, [], ◌∷◌, ◌++◌, length, replicate, codes, refl, ap, sym, ◌∙◌, arith, append_assoc, IsAscii, IsUtf8, chars, encode_utf8}
+use Rattle.std.proofs.lemmas.Bool.{and_parts}
 use Rattle.std.proofs.lemmas.Bool.Decides.{nat_tests}
 use Rattle.std.proofs.lemmas.List.{replicate-append-replicate}
 use Rattle.std.proofs.lemmas.List.Sums.{sum_by-append}
-use Rattle.std.proofs.lemmas.Str.{chars-nil, chars_past_char, encodes-chars, length-le-encodes, chars-IsAscii, IsUtf8-from_ascii, is_utf8-from_IsUtf8, IsUtf8-from_is_utf8}
+use Rattle.std.proofs.lemmas.Str.{chars-nil, chars_past_char, encodes-chars, length-le-encodes, chars-IsAscii, IsUtf8-from_ascii}
 use Rattle.std.proofs.lemmas.Str.Ascii.{IsAscii-nil, IsAscii-cons}
 use Rattle.page_core_base.specs.Rows.{shown}
 use Rattle.page_core_base.specs.laws.Views.{is_printable, is_printable_ascii}
@@ -17,16 +16,17 @@ use Rattle.page_core_escapes.specs.Tokens.{TextToken, tokens_of, plain}
 use Rattle.page_core_numbers.specs.Columns.{characters_columns}
 use Rattle.page_core_tables.proofs.PrintedLemmas.{char_columns-printable}
 use Rattle.page_core_tables.specs.Glyphs.{Printing, char_columns, char_printed}
+use Rattle.page_scopes_words.proofs.CharacterLemmas.{characters_of-text}
 use Rattle.page_scopes_words.specs.declared.fonts.Fonts.{Fonts}
 use Rattle.page_scopes_words.specs.Fonts.{roman_fonts, token_fonts}
-use Rattle.page_engine_header.specs.Header.{characters_of, plain_printed, in_font, token_printed, tokens_columns, tokens_items, name_tokens}
+use Rattle.page_scopes_words.specs.Words.{characters_of, plain_printed, token_printed}
+use Rattle.page_engine_header.specs.Header.{in_font, tokens_columns, tokens_items, name_tokens}
 use Rattle.page_engine_header.specs.laws.Views.{fonts_after}
 
 -- ---- tokens after tokens
 
 columns_append : (output : Output) (xs ys : List TextToken) → tokens_columns output (xs ++ ys) ≡ tokens_columns output xs + tokens_columns output ys
-columns_append output [] ys = omega arith
-columns_append output (x ∷ xs) ys = let e = columns_append output xs ys in omega (arith, e)
+columns_append output xs ys = sum_by-append (λ token. characters_columns (token_printed output token)) xs ys
 
 items_append : (output : Output) (place : Place) (fonts : Fonts) (xs ys : List TextToken)
     → tokens_items output place fonts (xs ++ ys) ≡ tokens_items output place fonts xs ++ tokens_items output place (fonts_after fonts xs) ys
@@ -40,12 +40,6 @@ items_append output place fonts (x ∷ xs) ys =
 chars_of_empty : (bytes : List ℕ) → length bytes ≡ 0 → chars bytes ≡ []
 chars_of_empty [] h = chars-nil
 chars_of_empty (b ∷ bs) h = absurd (omega arith)
-
-pub characters_of-text : (bytes : List ℕ) → IsUtf8 bytes → characters_of bytes ≡ chars bytes
-characters_of-text bytes u = rw (is_utf8-from_IsUtf8 bytes u) refl
-
-pub characters_of-none : (bytes : List ℕ) → ¬ (IsUtf8 bytes) → characters_of bytes ≡ []
-characters_of-none bytes u = elim (cases_Bool (is_utf8 bytes)) [ inl t ↦ absurd (u (IsUtf8-from_is_utf8 bytes t)) | inr f ↦ rw f refl ]
 
 pub plain-more : (output : Output) (bytes rest : List ℕ) (c : ℕ) → IsUtf8 bytes → bytes ≡ encode_utf8 c ++ rest
     → plain_printed output (chars bytes) ≡ (char_printed output c).characters ++ plain_printed output (chars rest)

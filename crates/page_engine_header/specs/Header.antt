@@ -1,7 +1,6 @@
 -- The header and the footer of a page: their fields, and what the text of a field prints. Source: man(7), `TH`; mdoc(7), `Dd`, `Dt`, `Os`.
 use Rattle.std.specs.List.{sum_by, starts_with, ends_with}
 use Rattle.std.specs.Prelude.{ℕ, List, [], if◌then◌else◌, flat_map, length, replicate, codes, ◌+◌, ◌∷◌, map, ◌++◌, drop, ◌==◌, ◌-◌, take, nat_eq, true, false, nat_lt, ◌/◌, max, zero, suc, ◌&&◌, not, Bool}
-use Rattle.std.specs.Str.{chars, is_utf8}
 use Rattle.page_core_base.specs.Limits.{FIELD, CELLS}
 use Rattle.page_core_base.specs.Messages.{text_front}
 use Rattle.page_core_base.specs.Rows.{Item, shown}
@@ -12,15 +11,14 @@ use Rattle.page_core_base.specs.declared.note_kinds.NoteKind.TheVariants.{Limit,
 use Rattle.page_core_base.specs.declared.page_settings.Output.{Output}
 use Rattle.page_core_base.specs.declared.pieces.Piece.TheVariants.{Char, Break, Indent, Literal, Space}
 use Rattle.page_core_base.specs.declared.places.Place.{Place}
-use Rattle.page_core_tables.specs.Glyphs.{char_printed}
-use Rattle.page_core_escapes.specs.Tokens.{TextToken, white, plain, quotes, escaped, tokens_of}
-use Rattle.page_core_numbers.specs.Columns.{printed_escape, characters_columns}
+use Rattle.page_core_escapes.specs.Tokens.{TextToken, plain, tokens_of}
+use Rattle.page_core_numbers.specs.Columns.{characters_columns}
 use Rattle.page_roff_syntax.specs.Arguments.{argument_value}
 use Rattle.page_roff_syntax.specs.declared.quotes.Argument.{Argument}
 use Rattle.page_sets_names.specs.declared.macro_names.Prologue.{Prologue}
 use Rattle.page_sets_names.specs.declared.macro_names.Prologue.TheVariants.{TH, Dd, Dt, Os}
 use Rattle.page_scopes_words.specs.Fonts.{token_fonts, roman_fonts}
-use Rattle.page_scopes_words.specs.Words.{says}
+use Rattle.page_scopes_words.specs.Words.{says, token_printed}
 use Rattle.page_scopes_words.specs.declared.fonts.Fonts.{Fonts}
 use Rattle.page_engine_header.specs.declared.fields.Fields.{Fields}
 use Rattle.page_engine_header.specs.declared.headers.Measure.{Measure}
@@ -28,26 +26,9 @@ use Rattle.page_engine_header.specs.declared.headers.Measure.{Measure}
 -- ---- What the text of a field prints: its characters, each in a font. Source: man(7), TH; roff(7), "ESCAPE
 -- SEQUENCES"; mandoc_char(7).
 
--- the characters of a text; bytes that are not UTF-8 have none
-abbrev pub characters_of : List ℕ → List ℕ
-characters_of bytes = if is_utf8 bytes then chars bytes else []
-
--- what characters that print themselves print in an output
-abbrev pub plain_printed : Output → List ℕ → List ℕ
-plain_printed output cs = flat_map (λ c. (char_printed output c).characters) cs
-
--- the characters that a token prints; a tab is a blank (32)
-abbrev pub token_printed : Output → TextToken → List ℕ
-token_printed output (white bytes) = replicate (length bytes) 32
-token_printed output (plain bytes) = plain_printed output (characters_of bytes)
-token_printed output (quotes bytes) = codes "\""
-token_printed output (escaped bytes meaning) = printed_escape output meaning
-
 -- the columns of what tokens print
 abbrev pub tokens_columns : Output → List TextToken → ℕ
-tokens_columns output [] = 0
-tokens_columns output (token ∷ tokens) =
-    characters_columns (token_printed output token) + tokens_columns output tokens
+tokens_columns output tokens = sum_by (λ token. characters_columns (token_printed output token)) tokens
 
 -- characters in a font
 abbrev pub in_font : Font → Place → List ℕ → List Item
@@ -76,9 +57,6 @@ said_len argument = length (argument_value argument)
 abbrev pub first_field : List (Argument (List ℕ)) → List ℕ
 first_field [] = []
 first_field (argument ∷ arguments) = said FIELD argument
-
-abbrev pub nth_field : ℕ → List (Argument (List ℕ)) → List ℕ
-nth_field n arguments = first_field (drop n arguments)
 
 -- a field, or another where it is empty
 abbrev pub or_else : List ℕ → List ℕ → List ℕ
@@ -146,17 +124,17 @@ bracketed text (argument ∷ others) =
 abbrev pub fields_after : Prologue → List ℕ → List (Argument (List ℕ)) → Fields → Fields
 -- TH title section date source volume: the source is else the operating system's, the volume else the section's
 fields_after TH os arguments f = record f {
-  title = nth_field 0 arguments;
-  section = nth_field 1 arguments;
-  date = nth_field 2 arguments;
-  source = or_else (nth_field 3 arguments) os;
-  volume = or_else (nth_field 4 arguments) (volume_of (nth_field 1 arguments));
+  title = first_field arguments;
+  section = first_field (drop 1 arguments);
+  date = first_field (drop 2 arguments);
+  source = or_else (first_field (drop 3 arguments)) os;
+  volume = or_else (first_field (drop 4 arguments)) (volume_of (first_field (drop 1 arguments)));
 }
 -- Dt title section [arch]: the volume is the section's, and the architecture in brackets after it
 fields_after Dt os arguments f = record f {
-  title = nth_field 0 arguments;
-  section = nth_field 1 arguments;
-  volume = bracketed (volume_of (nth_field 1 arguments)) (drop 2 arguments);
+  title = first_field arguments;
+  section = first_field (drop 1 arguments);
+  volume = bracketed (volume_of (first_field (drop 1 arguments))) (drop 2 arguments);
 }
 -- Dd date; Os system: all words, and without words the system is that of the settings
 fields_after Dd os arguments f = record f { date = without_keyword (joined arguments) }

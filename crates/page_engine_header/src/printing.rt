@@ -7,7 +7,8 @@ ghost use Rattle.page_core_escapes.specs.laws.Views.{meaning_view, token_view};
 ghost use Rattle.page_core_escapes.specs.Tokens.{token_bytes, tokens_of};
 ghost use Rattle.page_core_numbers.specs.Columns.{characters_columns, printed_escape};
 ghost use Rattle.page_core_tables.specs.laws.Views.{printed_view};
-ghost use Rattle.page_engine_header.specs.Header.{plain_printed, token_printed, tokens_columns, in_font, tokens_items};
+ghost use Rattle.page_scopes_words.specs.Words.{plain_printed, token_printed};
+ghost use Rattle.page_engine_header.specs.Header.{tokens_columns, in_font, tokens_items};
 ghost use Rattle.page_engine_header.specs.laws.Views.{fonts_after};
 
 use crate::RunOut;

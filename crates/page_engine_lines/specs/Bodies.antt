@@ -111,27 +111,22 @@ chosen_if b (Some set) = chosen b set
 
 -- ---- the start
 
--- a page is read as man(7) until its language is decided
-abbrev pub asked_set : Language → Either
-asked_set languages.Auto = sets.Man
-asked_set languages.Man = sets.Man
-asked_set languages.Mdoc = sets.Mdoc
-
-abbrev pub is_asked : Language → Bool
-is_asked languages.Auto = false
-is_asked languages.Man = true
-is_asked languages.Mdoc = true
+-- the set of macros that the settings ask for, and whether they do: a page is read as man(7) until its language is decided
+abbrev pub asked : Language → Either × Bool
+asked languages.Auto = (sets.Man, false)
+asked languages.Man = (sets.Man, true)
+asked languages.Mdoc = (sets.Mdoc, true)
 
 -- before a page's first line
 abbrev pub start_of : Settings → BodyEdge
 start_of s =
-    let indent = indent_of s.indent (asked_set s.language) in
+    let indent = indent_of s.indent (asked s.language).0 in
     record {
       header = record {
         measure = record { width = s.width; indent = indent; output = s.output };
         indent = s.indent;
-        set = asked_set s.language;
-        is_decided = is_asked s.language;
+        set = (asked s.language).0;
+        is_decided = (asked s.language).1;
         os = s.os.bytes;
         fields = no_fields s.os.bytes;
       };

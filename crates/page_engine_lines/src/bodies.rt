@@ -84,7 +84,7 @@ impl<O: PieceOut> EventOut for BodyOut<'_, '_, O> {
 
 // The set of macros that the settings ask for, and whether they ask for one.
 fn asked(language: Language) -> (Either, bool)
-    ensures { result ≡ (bodies.asked_set language, bodies.is_asked language) }
+    ensures { result ≡ bodies.asked language }
 {
     match language {
         Language::Auto => (Either::Man, false),

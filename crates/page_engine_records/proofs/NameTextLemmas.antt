@@ -13,7 +13,8 @@ use Rattle.page_core_base.specs.declared.places.Place.{Place}
 use Rattle.page_core_base.specs.declared.pieces.Piece.{Piece}
 use Rattle.page_core_base.specs.declared.pieces.Piece.TheVariants.{Text, Glyph, Char, Split, Para, Indent, Literal, Tag, Heading}
 use Rattle.page_core_tables.specs.Glyphs.{char_printed, glyph_printed}
-use Rattle.page_engine_header.specs.Header.{characters_of, in_font, plain_printed, token_printed, tokens_items}
+use Rattle.page_scopes_words.specs.Words.{characters_of, plain_printed, token_printed}
+use Rattle.page_engine_header.specs.Header.{in_font, tokens_items}
 use Rattle.page_core_escapes.specs.Tokens.{TextToken}
 use Rattle.page_scopes_words.specs.Fonts.{token_fonts}
 use Rattle.page_scopes_words.specs.declared.fonts.Fonts.{Fonts}

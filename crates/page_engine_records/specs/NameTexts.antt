@@ -8,7 +8,7 @@ use Rattle.page_core_base.specs.declared.page_settings.Output.TheVariants.{Ascii
 use Rattle.page_core_base.specs.declared.pieces.Piece.{Piece}
 use Rattle.page_core_base.specs.declared.pieces.Piece.TheVariants.{Text, Glyph, Char, Tab, Blank, Glue, Split, Break, RowEnd, Para, Space, Indent, Literal, Tag, TagEnd, Heading, Column}
 use Rattle.page_core_tables.specs.Glyphs.{char_printed, glyph_printed}
-use Rattle.page_engine_header.specs.Header.{characters_of, plain_printed}
+use Rattle.page_scopes_words.specs.Words.{characters_of, plain_printed}
 
 -- ---- signs
 

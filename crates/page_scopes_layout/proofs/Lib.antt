@@ -1,2 +1,1 @@
 pub mod MarginLemmas
-pub mod HeadingLemmas

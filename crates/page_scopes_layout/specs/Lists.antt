@@ -1,5 +1,5 @@
 -- Lists and other scopes: what is known of an open one, and what it gives where it begins and ends, but its words. Source: man(7), mdoc(7).
-use Rattle.std.proofs.Math.Nat.{min-le_right}
+use Rattle.std.proofs.Common.{arith}
 use Rattle.std.specs.Prelude.{◌-◌, replicate, nat_lt, Bool, ℕ, ◌+◌, min, if◌then◌else◌, slice_set, get_or, true, false, ◌&&◌, ◌||◌, ◌^◌, Some, ℤ, pos, ◌+ℤ◌, Option, None, List, [], ◌∷◌, ◌++◌}
 use Rattle.page_core_base.specs.Limits.{COLUMNS}
 use Rattle.page_core_base.specs.Rows.{Item, shown}
@@ -27,14 +27,14 @@ use Rattle.page_scopes_layout.specs.declared.lists.OpenList.{OpenList}
 -- ---- the widths of columns; `fits` bounds their count
 
 abbrev pub no_widths : ColumnWidths
-no_widths = record { widths = replicate COLUMNS 0; count = 0; fits = min-le_right 0 COLUMNS }
+no_widths = record { widths = replicate COLUMNS 0; count = 0; fits = omega arith }
 
 abbrev pub has_room : ColumnWidths → Bool
 has_room w = nat_lt w.count COLUMNS
 
 -- a width that has no room is not kept
 abbrev pub with_width : ColumnWidths → ℕ → ColumnWidths
-with_width w width = if has_room w then record { widths = slice_set w.widths w.count width; count = min (w.count + 1) COLUMNS; fits = min-le_right _ _ } else w
+with_width w width = if has_room w then record { widths = slice_set w.widths w.count width; count = min (w.count + 1) COLUMNS; fits = omega arith } else w
 
 -- the width of a column that is given none
 abbrev pub COLUMN_WIDTH : ℕ

@@ -1,120 +1,86 @@
-//! How far a heading is `NAME` or `SYNOPSIS`, by what it prints in ASCII (mdoc(7), "MANUAL STRUCTURE").
+//! Which section a heading begins, by what it prints in ASCII (mdoc(7), "MANUAL STRUCTURE").
 
-ghost use Rattle.std.specs.Prelude.{◌≡◌, ◌≤◌, [], length};
+ghost use Rattle.std.specs.Prelude.{◌≡◌, ◌≤◌, ℕ, List, length};
 ghost use Rattle.std.specs.List.{fold};
-ghost use Rattle.std.specs.Option.{option_map_or};
 ghost use Rattle.std.specs.Str.{chars};
+ghost use Rattle.page_core_base.specs.declared.page_settings.Output.TheVariants.{Ascii};
 ghost use Rattle.page_core_escapes.specs.laws.Views.{meaning_view, token_view};
-ghost use Rattle.page_core_escapes.specs.Tokens.{plain, tokens_of};
-ghost use Rattle.page_core_tables.specs.Glyphs.{glyph_of};
+ghost use Rattle.page_core_escapes.specs.Tokens.{escaped, plain, tokens_of};
+ghost use Rattle.page_core_tables.specs.laws.Views.{printed_view};
+ghost use Rattle.page_scopes_words.specs.Words.{plain_printed};
 ghost use Rattle.page_scopes_layout.specs.Headings as headings;
 
 use crate::contexts::{Context, PagePart, PageSection};
-use page_core_base::LINE;
+use page_core_base::{LINE, Output};
 use page_core_escapes::{Escape, Token, Tokens};
-use page_core_numbers::{Scale, evaluate};
-use page_core_tables::{glyph, spelling};
+use page_core_tables::{Printed, printed_char, printed_glyph};
+use page_scopes_words::blank_count;
 
-// The words that are looked for.
-const NAME: &[u8] = b"NAME";
+// The words that are looked for, as numbers to the base 256.
+const NAME: u64 = 0x4E41_4D45;
 
-const SYNOPSIS: &[u8] = b"SYNOPSIS";
+const SYNOPSIS: u64 = 0x5359_4E4F_5053_4953;
 
-// The basic units of a column.
-const COLUMN: i32 = 24;
-
-/// How far a heading is one of two words.
+/// What a heading printed so far, as far as it may be one of two words.
 #[derive(Clone, Copy)]
 pub struct HeadingSoFar {
-    /// The bytes of `NAME` that have come, unless it is another word.
-    pub name: Option<usize>,
-    /// The bytes of `SYNOPSIS` that have come, unless it is another word.
-    pub synopsis: Option<usize>,
+    /// Its characters in ASCII as a number to the base 256, or the greatest number where they are more than eight.
+    pub text: u64,
     /// White space came after them.
     pub is_parted: bool,
 }
 
-// A heading that is neither.
-const OTHER: HeadingSoFar = HeadingSoFar {
-    name: None,
-    synopsis: None,
-    is_parted: false,
-};
-
-// Whether what is printed goes on with a word of which this many bytes have come: how many then have.
-#[tactic(auto, using(crate::proofs::HeadingLemmas::next_of))]
-fn word_further(word: &[u8], printed: &[u8], so_far: Option<usize>) -> Option<usize>
-    requires { length word.now ≤ LINE }
-    ensures { result ≡ headings.word_further word.now printed.now so_far }
+// A text with one character more.
+fn text_and(text: u64, c: char) -> u64
+    ensures { result ≡ headings.text_and text c }
 {
-    let count = so_far?.min(word.len());
-    let rest = &word[count..];
-    let next = &rest[..printed.len().min(rest.len())];
-    if next == printed {
-        Some(count + next.len())
-    } else {
-        None
-    }
+    text.saturating_mul(256).saturating_add(u64::from(c))
 }
 
-// Whether nothing has come of a word.
-fn is_front(so_far: Option<usize>) -> bool
-    ensures { result ≡ headings.has_come 0 so_far }
-{
-    match so_far {
-        None => false,
-        Some(count) => count == 0,
-    }
-}
-
-// Goes on after what is printed.
-fn printed_further(printed: &[u8], heading: HeadingSoFar) -> HeadingSoFar
-    ensures { result ≡ headings.printed_further printed.now heading }
-{
-    if printed.is_empty() {
-        heading
-    } else if heading.is_parted && !is_front(heading.synopsis) {
-        OTHER
-    } else {
-        HeadingSoFar {
-            name: word_further(NAME, printed, heading.name),
-            synopsis: word_further(SYNOPSIS, printed, heading.synopsis),
-            is_parted: false,
-        }
-    }
-}
-
-// What a character or a glyph prints that is spelled so.
-fn spelled(spelling: &'static str) -> &'static str
-    ensures { result.now ≡ headings.spelled spelling.now }
-{
-    if spelling.is_empty() { "<?>" } else { spelling }
-}
-
-// What the glyph of a name prints.
-fn glyph_spelled(name: &[u8]) -> &'static str
-    ensures { result.now ≡ headings.spelled (option_map_or (λ symbol. symbol.spelling) (glyph_of name.now) []) }
-{
-    match glyph(name) {
-        None => "<?>",
-        Some(found) => spelled(found.ascii),
-    }
-}
-
-// Goes on after a character.
+// Goes on after a character that is printed.
 fn character_further(heading: HeadingSoFar, c: char) -> HeadingSoFar
     ensures { result ≡ headings.character_further heading c }
 {
-    printed_further(spelled(spelling(c)).as_bytes(), heading)
+    let text = if heading.is_parted && heading.text > 0 {
+        text_and(heading.text, ' ')
+    } else {
+        heading.text
+    };
+    HeadingSoFar {
+        text: text_and(text, c),
+        is_parted: false,
+    }
+}
+
+// Goes on after a spelling.
+fn spelling_further(spelling: &str, start: HeadingSoFar) -> HeadingSoFar
+    ensures { result ≡ fold headings.character_further start spelling.now }
+{
+    let mut heading = start;
+    for byte in spelling.as_bytes() {
+        heading = character_further(heading, *byte as char);
+    }
+    heading
+}
+
+// Goes on after what a character or a glyph prints.
+fn printed_further(printed: Printed<'_>, heading: HeadingSoFar) -> HeadingSoFar
+    ensures { result ≡ fold headings.character_further heading (printed_view printed.entry).characters }
+{
+    match printed {
+        Printed::Char(c) => character_further(heading, c),
+        Printed::Spelling(spelling) => spelling_further(spelling, heading),
+        Printed::NoSpelling(_) | Printed::NoGlyph(_) => spelling_further("<?>", heading),
+    }
 }
 
 // Goes on after the characters of a text.
 fn characters_further(text: &str, start: HeadingSoFar) -> HeadingSoFar
-    ensures { result ≡ fold headings.character_further start (chars text.now) }
+    ensures { result ≡ fold headings.character_further start (plain_printed Ascii (chars text.now)) }
 {
     let mut heading = start;
     for c in text.chars() {
-        heading = character_further(heading, c);
+        heading = printed_further(printed_char(Output::Ascii, c), heading);
     }
     heading
 }
@@ -125,23 +91,24 @@ fn plain_further(text: &[u8], heading: HeadingSoFar) -> HeadingSoFar
 {
     match str::from_utf8(text) {
         Ok(text) => characters_further(text, heading),
-        Err(_) => OTHER,
+        Err(_) => heading,
     }
 }
 
 // Goes on after an escape.
 fn escape_further(meaning: Escape<'_>, heading: HeadingSoFar) -> HeadingSoFar
-    ensures { result ≡ headings.escape_further (meaning_view meaning.entry) heading }
+    ensures { (bytes : List ℕ) → result ≡ headings.token_further heading (escaped bytes (meaning_view meaning.entry)) }
 {
     match meaning {
-        Escape::Glyph(name) => printed_further(glyph_spelled(name).as_bytes(), heading),
-        Escape::Char(c) | Escape::Undefined(c) => character_further(heading, c),
-        Escape::Tab | Escape::Blank => OTHER,
+        Escape::Glyph(name) => printed_further(printed_glyph(Output::Ascii, name), heading),
+        Escape::Char(c) => printed_further(printed_char(Output::Ascii, c), heading),
+        Escape::Undefined(c) => printed_further(printed_char(Output::Ascii, c), heading),
+        Escape::Tab | Escape::Blank => character_further(heading, ' '),
         Escape::Blanks(expression) => {
-            if evaluate(expression, Scale::Em).value < COLUMN {
+            if blank_count(expression) == 0 {
                 heading
             } else {
-                OTHER
+                character_further(heading, ' ')
             }
         }
         Escape::Nothing | Escape::Glue | Escape::Font(_) | Escape::Unsupported | Escape::Bad =>
@@ -159,7 +126,7 @@ fn token_further(token: &Token<'_>, heading: HeadingSoFar) -> HeadingSoFar
             ..heading
         },
         Token::Plain(text) => plain_further(text, heading),
-        Token::Quotes(_) => OTHER,
+        Token::Quotes(_) => character_further(heading, '"'),
         Token::Escaped { meaning, .. } => escape_further(meaning, heading),
     }
 }
@@ -201,24 +168,13 @@ pub fn in_synopsis(context: &Context) -> bool
     matches!(context.section, PageSection::Synopsis) && !is_heading(context.part)
 }
 
-// Whether all bytes of a word have come.
-fn is_whole(word: &[u8], so_far: Option<usize>) -> bool
-    ensures { result ≡ headings.has_come (length word.now) so_far }
-{
-    match so_far {
-        None => false,
-        Some(count) => count == word.len(),
-    }
-}
-
 impl HeadingSoFar {
     /// A heading before it prints anything.
     pub fn start() -> HeadingSoFar
         ensures { result ≡ headings.no_heading }
     {
         HeadingSoFar {
-            name: Some(0),
-            synopsis: Some(0),
+            text: 0,
             is_parted: false,
         }
     }
@@ -243,7 +199,7 @@ impl HeadingSoFar {
         ensures { self.new ≡ headings.heading_broken part self.old }
     {
         if is_top_heading(part) {
-            *self = OTHER;
+            *self = character_further(*self, ' ');
         }
     }
 
@@ -251,9 +207,9 @@ impl HeadingSoFar {
     pub fn section(&self) -> PageSection
         ensures { result ≡ headings.headed_section self.now }
     {
-        if is_whole(SYNOPSIS, self.synopsis) {
+        if self.text == SYNOPSIS {
             PageSection::Synopsis
-        } else if is_whole(NAME, self.name) {
+        } else if self.text == NAME {
             PageSection::Name
         } else {
             PageSection::Other

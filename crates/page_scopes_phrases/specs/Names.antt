@@ -1,6 +1,6 @@
 -- Texts that are kept of an argument and printed later: the name of the manual, the target of a link, the end of a function. Source: mdoc(7), `Nm`, `Fo`; man(7), `UR`.
 use Rattle.std.specs.List.{list_any}
-use Rattle.std.specs.Prelude.{ℕ, List, nat_lt, [], ◌∷◌, length, codes, if◌then◌else◌, false, ◌==◌, Bool, ◌++◌, fold, true, ◌||◌, Option, None, Some, ◌&&◌, max}
+use Rattle.std.specs.Prelude.{refl, ℕ, List, nat_lt, [], ◌∷◌, length, codes, if◌then◌else◌, false, ◌==◌, Bool, ◌++◌, fold, true, ◌||◌, Option, None, Some, ◌&&◌, max}
 use Rattle.page_core_base.specs.Limits.{FIELD}
 use Rattle.page_core_base.specs.Messages.{text_front}
 use Rattle.page_core_base.specs.Rows.{Item, shown}
@@ -16,7 +16,6 @@ use Rattle.page_sets_names.specs.declared.generated_texts.GeneratedText.TheVaria
 use Rattle.page_sets_lines.specs.declared.events.Join.TheVariants.{Apart, Glued}
 use Rattle.page_sets_lines.specs.declared.events.Role.{Role}
 use Rattle.page_sets_lines.specs.declared.events.Role.TheVariants as roles
-use Rattle.page_scopes_words.proofs.FrontLemmas.{front_fits}
 use Rattle.page_scopes_words.specs.Fonts.{fonts_after}
 use Rattle.page_scopes_words.specs.Words.{says, blank_cells, token_items, has_tab, white_cells, token_prints, at}
 use Rattle.page_scopes_words.specs.declared.fonts.Fonts.{Fonts}
@@ -29,10 +28,10 @@ use Rattle.page_scopes_phrases.specs.declared.kept_texts.KeptText.{KeptText}
 
 -- ---- Texts that are kept of an argument and printed later: the target of a link, and the name of the manual. Source: man(7), `UR`, `MT`; mdoc(7), `Nm`.
 
--- The first FIELD bytes of what an argument says are kept, up to a character's end, and so no more, as `fits` says of each that there is. A
--- pair of quotes in a quoted argument is one byte.
+-- The first FIELD bytes of what an argument says are kept, up to a character's end, and each that there is was so cut of a text (`is_front`). A pair of
+-- quotes in a quoted argument is one byte.
 abbrev pub kept_of : Argument (List ℕ) → KeptText
-kept_of argument = record { text = text_front FIELD (argument_value argument); fits = front_fits FIELD (argument_value argument) }
+kept_of argument = record { text = text_front FIELD (argument_value argument); is_front = ∣ (argument_value argument, refl) ∣₁ }
 
 abbrev pub cut_notes : Place → Argument (List ℕ) → List Item
 cut_notes place argument = if nat_lt FIELD (length (argument_value argument)) then says Limit place (codes "FIELD") ∷ [] else []

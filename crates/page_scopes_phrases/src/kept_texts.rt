@@ -1,6 +1,7 @@
 //! Texts that are kept of an argument and printed later: the target of a link and the name of the manual (man(7), `UR`, `MT`; mdoc(7), `Nm`).
-ghost use Rattle.std.specs.Prelude.{◌≡◌, ◌≤◌, length};
-ghost use Rattle.page_core_base.specs.declared.limits.TheConstants.{FIELD};
+ghost use Rattle.std.specs.Prelude.{◌≡◌, ◌≤◌, List, ℕ, length};
+ghost use Rattle.page_core_base.specs.Limits.{FIELD};
+ghost use Rattle.page_core_base.specs.Messages.{text_front};
 
 use arrayvec::ArrayVec;
 use page_core_base::FIELD;
@@ -52,7 +53,7 @@ impl FieldText {
 #[derive(Drop)]
 pub struct KeptText {
     pub text: FieldText,
-    pub ghost fits: { length text ≤ FIELD },
+    pub ghost is_front: { ∥ ((whole : List ℕ) × (text ≡ text_front FIELD whole)) ∥₁ },
 }
 
 impl KeptText {

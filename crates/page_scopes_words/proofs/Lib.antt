@@ -3,3 +3,4 @@ pub mod FrontLemmas
 pub mod LetterCellLemmas
 pub mod RunEndLemmas
 pub mod BlankCountLemmas
+pub mod CharacterLemmas

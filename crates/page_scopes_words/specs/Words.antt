@@ -1,7 +1,8 @@
 -- A token of a text as a piece and messages, what is known between two tokens, and the end of a sentence. Source: roff(7), "Filling and adjusting", "Escape sequences".
 use Rattle.std.specs.List.{list_any}
 use Rattle.std.specs.Option.{option_to_list, option_map_or}
-use Rattle.std.specs.Prelude.{ℕ, List, Bool, if◌then◌else◌, [], ◌∷◌, take, ◌==◌, ◌&&◌, Option, None, Some, map, true, false, ℤ, pos, int_div, ◌/◌, negsuc, min, nat_lt, ◌++◌, replicate, is_some, ◌+◌, ◌||◌, length, max, ◌-◌, slice_get}
+use Rattle.std.specs.Prelude.{codes, flat_map, ℕ, List, Bool, if◌then◌else◌, [], ◌∷◌, take, ◌==◌, ◌&&◌, Option, None, Some, map, true, false, ℤ, pos, int_div, ◌/◌, negsuc, min, nat_lt, ◌++◌, replicate, is_some, ◌+◌, ◌||◌, length, max, ◌-◌, slice_get}
+use Rattle.std.specs.Str.{chars, is_utf8}
 use Rattle.page_core_base.specs.Limits.{BLANKS, name_of}
 use Rattle.page_core_base.specs.Messages.{message_about}
 use Rattle.page_core_base.specs.Rows.{Item, noted, shown}
@@ -11,13 +12,15 @@ use Rattle.page_core_base.specs.declared.cells.Font.TheVariants.{R}
 use Rattle.page_core_base.specs.declared.limits.Limit.TheVariants as limits
 use Rattle.page_core_base.specs.declared.note_kinds.NoteKind.{NoteKind}
 use Rattle.page_core_base.specs.declared.note_kinds.NoteKind.TheVariants.{UnknownFont, UndefEscape, BadEscape, UnsuppEscape, Limit}
+use Rattle.page_core_base.specs.declared.page_settings.Output.{Output}
 use Rattle.page_core_base.specs.declared.page_settings.Output.TheVariants.{Ascii}
 use Rattle.page_core_base.specs.declared.pieces.Piece.{Piece}
 use Rattle.page_core_base.specs.declared.pieces.Piece.TheVariants.{Text, Char, Tab, Glyph}
 use Rattle.page_core_base.specs.declared.places.Place.{Place}
+use Rattle.page_core_tables.specs.Glyphs.{char_printed}
 use Rattle.page_core_escapes.specs.Meanings as meanings
 use Rattle.page_core_escapes.specs.Meanings.{Face, Meaning}
-use Rattle.page_core_escapes.specs.Tokens.{TextToken, plain, quotes, escaped, token_bytes}
+use Rattle.page_core_escapes.specs.Tokens.{TextToken, white, plain, quotes, escaped, token_bytes}
 use Rattle.page_core_numbers.specs.Columns.{characters_columns, printed_escape}
 use Rattle.page_core_numbers.specs.Expressions.{expression_of, messages_at}
 use Rattle.page_core_numbers.specs.declared.scales.Scale.{Scale}
@@ -71,6 +74,23 @@ token_piece font place (escaped bytes meanings.tab) = Some (Tab font place)
 token_piece font place (escaped bytes meanings.blank) = Some (Text (32 ∷ []) font place)
 token_piece font place (escaped bytes (meanings.undefined c)) = Some (if c == 9 then Tab font place else Char c font place)
 token_piece font place _ = None
+
+-- ---- the characters that a token prints
+
+-- the characters of a text; bytes that are not UTF-8 have none
+abbrev pub characters_of : List ℕ → List ℕ
+characters_of bytes = if is_utf8 bytes then chars bytes else []
+
+-- what characters that print themselves print in an output
+abbrev pub plain_printed : Output → List ℕ → List ℕ
+plain_printed output cs = flat_map (λ c. (char_printed output c).characters) cs
+
+-- a token; a tab is a blank (32)
+abbrev pub token_printed : Output → TextToken → List ℕ
+token_printed output (white bytes) = replicate (length bytes) 32
+token_printed output (plain bytes) = plain_printed output (characters_of bytes)
+token_printed output (quotes bytes) = codes "\""
+token_printed output (escaped bytes meaning) = printed_escape output meaning
 
 -- ---- white space
 
@@ -207,8 +227,8 @@ word_after style pen word = body_after (gap_after style pen) word
 -- ---- after white space
 
 abbrev pub white_after : TextStyle → Pen → List ℕ → Pen
-white_after style pen white = record pen {
-  column = pen.column + length white;
+white_after style pen bytes = record pen {
+  column = pen.column + length bytes;
   gap = if style.is_literal then 0 else max pen.gap 1;
   has_cell = pen.has_cell || style.is_literal;
   is_cut = false;
@@ -216,7 +236,7 @@ white_after style pen white = record pen {
 }
 
 abbrev pub indented_pen : Pen → List ℕ → Pen
-indented_pen pen white = record pen { column = pen.column + length white; has_cell = true }
+indented_pen pen bytes = record pen { column = pen.column + length bytes; has_cell = true }
 
 -- ---- The end of a sentence at a line's end. Source: roff(7), "Sentences"; mandoc(1).
 

@@ -7,7 +7,7 @@ use Rattle.page_core_base.specs.declared.page_settings.Output.TheVariants.{Ascii
 use Rattle.page_core_base.specs.declared.pieces.Piece.{Piece}
 use Rattle.page_core_base.specs.declared.pieces.Piece.TheVariants.{Text, Glyph, Char, Tab, Glue, Split, Para, Indent, Literal, Tag, Heading}
 use Rattle.page_core_tables.specs.Glyphs.{char_printed, glyph_printed}
-use Rattle.page_engine_header.specs.Header.{characters_of, plain_printed}
+use Rattle.page_scopes_words.specs.Words.{characters_of, plain_printed}
 use Rattle.page_engine_records.specs.NameTexts.{TEXT}
 use Rattle.page_engine_records.specs.declared.name_readers.NameReader.{NameReader}
 use Rattle.page_engine_records.specs.declared.name_readers.Side.{Side}

@@ -1,7 +1,7 @@
 use Rattle.std.proofs.Common.{◌≡◌, ◌≤◌, ◌+◌, ◌*◌, IsUtf8, chars, length}
 use Rattle.std.specs.Str.Iter.{chars_rest}
 use Rattle.page_core_numbers.specs.Columns.{characters_columns}
-use Rattle.page_engine_header.specs.Header.{plain_printed}
+use Rattle.page_scopes_words.specs.Words.{plain_printed}
 use Rattle.page_engine_header.proofs.printing.plain_columns.Given as goal
 
 abbrev pub invariant-loop-c : goal.invariant-loop-c

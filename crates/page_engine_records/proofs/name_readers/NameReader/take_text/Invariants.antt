@@ -1,7 +1,7 @@
 use Rattle.std.proofs.Common.{◌≡◌, IsUtf8, chars}
 use Rattle.std.specs.Str.Iter.{chars_rest}
 use Rattle.page_core_base.specs.declared.page_settings.Output.TheVariants.{Ascii}
-use Rattle.page_engine_header.specs.Header.{plain_printed}
+use Rattle.page_scopes_words.specs.Words.{plain_printed}
 use Rattle.page_engine_records.specs.machine.NameTexts.{with_characters}
 use Rattle.page_engine_records.proofs.name_readers.NameReader.take_text.Given as goal
 
