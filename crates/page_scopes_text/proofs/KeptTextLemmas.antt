@@ -21,7 +21,7 @@ use Rattle.page_scopes_words.specs.Words.{body_after, gap_after, white_after, wo
 use Rattle.page_scopes_words.specs.declared.pens.Pen.{Pen}
 use Rattle.page_scopes_words.specs.declared.pens.TextStyle.{TextStyle}
 use Rattle.page_scopes_text.proofs.PartedLemmas.{all_before, no_word, white_token}
-use Rattle.page_scopes_text.proofs.TextLemmas.{after_others_more, after_spaced_word, others_more, spaced_word}
+use Rattle.page_scopes_text.proofs.TextLemmas.{others_more, spaced_word}
 use Rattle.page_scopes_text.specs.laws.Views.{spaced_front}
 use Rattle.page_scopes_text.specs.Texts.{words_of, others_after, others_items, place_after, spaced_after, spaced_items, printed_items, word_items}
 use Rattle.page_scopes_text.specs.machine.Kept.{AreCells, IsKept, ReadsKept, kept_pen}
@@ -168,7 +168,7 @@ spaced_kept : (style : TextStyle) (line last : ℕ) (pen : Pen) (text white afte
     ≡ map shown (blank_pieces (place_after line pen white) white ++ word_pieces pen.splits (at line (pen.column + length white)) word)
 spaced_kept style line last pen text white after word rest n s literal roman =
     let word_first = plain_begins style.is_quoted after word rest s.plain_word in
-    let parts = spaced_word style line last pen text white after n s.len s.front s.back word_first in
+    let parts = (spaced_word style line last pen text white after n s.len s.front s.back word_first).0 in
     let pen_white = white_after style pen white in
     let gap : pen_white.gap ≡ 0 = rw literal refl in
     let printed = kept_word style line (has_tab white) pen_white word literal gap roman in
@@ -179,7 +179,7 @@ after_kept : (style : TextStyle) (pen : Pen) (text white after word rest : List 
     → style.is_literal ≡ true → spaced_after style pen (spaced_front style.is_quoted text) ≡ kept_pen pen (white ++ word)
 after_kept style pen text white after word rest n s literal =
     let word_first = plain_begins style.is_quoted after word rest s.plain_word in
-    after_spaced_word style pen text white after n s.len s.front s.back word_first
+    (spaced_word style 0 0 pen text white after n s.len s.front s.back word_first).1
     ∙ (rw s.plain_word.only (kept_spaced style pen white word s.some literal))
 
 rest_others : (quoted : Bool) (text white after word rest : List ℕ) (n : ℕ) → Spaces quoted text white after word rest n
@@ -206,7 +206,7 @@ gives_word style line last pen text white after word rest n s literal roman =
     let letters = word_pieces pen.splits (at line (pen.column + length white)) word in (
       blanks ++ letters,
       are_both white word blanks letters (white_are (place_after line pen white) white s.blanks s.no_tab) (word_are pen.splits (at line (pen.column + length white)) word s.plain_word.is_a_word),
-      others_more style line last pen text s.begins
+      (others_more style line last pen text s.begins).0
           ∙ rw (spaced_kept style line last pen text white after word rest n s literal roman, after_kept style pen text white after word rest n s literal, rest_others style.is_quoted text white after word rest n s) refl,
     )
 
@@ -214,7 +214,7 @@ after_word : (style : TextStyle) (pen : Pen) (text white after word rest : List 
     → style.is_literal ≡ true
     → others_after style pen (words_of style.is_quoted text).others ≡ others_after style (kept_pen pen (white ++ word)) (words_of style.is_quoted rest).others
 after_word style pen text white after word rest n s literal =
-    after_others_more style pen text s.begins
+    (others_more style 0 0 pen text s.begins).1
     ∙ rw (after_kept style pen text white after word rest n s literal, rest_others style.is_quoted text white after word rest n s) refl
 
 pub reads_word : (style : TextStyle) (text white after word rest : List ℕ) (n : ℕ) → Spaces style.is_quoted text white after word rest n → ReadsKept style text rest

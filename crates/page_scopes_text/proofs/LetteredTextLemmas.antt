@@ -23,7 +23,7 @@ use Rattle.page_scopes_text.proofs.LetterLemmas.{begins_some}
 use Rattle.page_scopes_text.proofs.LetteredWordLemmas.{reads_after_blank, white_pen}
 use Rattle.page_scopes_text.proofs.PartedLemmas.{blank_len}
 use Rattle.page_scopes_text.proofs.RunWordLemmas.{first_reads, one_word, run_reads}
-use Rattle.page_scopes_text.proofs.TextLemmas.{after_others_more, after_spaced_word, others_more, spaced_word}
+use Rattle.page_scopes_text.proofs.TextLemmas.{others_more, spaced_word}
 use Rattle.page_scopes_text.specs.Texts.{Spaced, words_of, others_after, others_items, spaced_items, body_items, empty_items, gap_items, tokens_items, word_items, word_notes}
 use Rattle.page_scopes_text.specs.laws.Views.{spaced_front}
 use Rattle.page_scopes_words.specs.machine.Pens.{resting}
@@ -113,7 +113,7 @@ there_gives : (style : TextStyle) (line last : ℕ) (fonts : Setting Fonts) (col
     → spaced_items style line last (resting fonts column) (spaced_front style.is_quoted (32 ∷ text))
     ≡ shown (Blank 1 false) ∷ prints_word style.is_quoted (at line (column + 1)) fonts (column + 1) (words_of style.is_quoted text).word
 there_gives style line last fonts column text literal begins notes =
-    spaced_word style line last (resting fonts column) (32 ∷ text) (32 ∷ []) text 1 (sym (blank_len style.is_quoted text begins)) refl refl begins ∙ rw (literal, notes) refl
+    (spaced_word style line last (resting fonts column) (32 ∷ text) (32 ∷ []) text 1 (sym (blank_len style.is_quoted text begins)) refl refl begins).0 ∙ rw (literal, notes) refl
 
 -- a word that prints something ends so
 abbrev ended : Pen → Pen
@@ -147,7 +147,7 @@ text_same style line last pen text h begins prints =
     let c = pen.column - 1 in
     let back : c + 1 ≡ pen.column = omega (arith, h.column) in
     let one = blank_len quoted text begins in
-    let rests = after_spaced_word style (resting pen.fonts c) (32 ∷ text) (32 ∷ []) text 1 (sym one) refl refl begins in
+    let rests = (spaced_word style 0 0 (resting pen.fonts c) (32 ∷ text) (32 ∷ []) text 1 (sym one) refl refl begins).1 in
     let quiet = prints.1 (at line pen.column) in
     let there = there_gives style line last pen.fonts c text h.filled begins (rw back quiet) in
     let others = (words_of quoted text).others in
@@ -157,7 +157,7 @@ text_same style line last pen text h begins prints =
     ap₂ (λ (i : List Item) (p : Pen). i ++ others_items style line last p others) (here_gives style line pen word h quiet) (here_rests style pen word h (prints.0 pen.column)) in
     let other : others_items style line last (resting pen.fonts c) (words_of quoted (32 ∷ text)).others
     ≡ shown (Blank 1 false) ∷ (prints_word quoted (at line pen.column) pen.fonts pen.column word ++ others_items style line last (word_after style (white_pen style pen.fonts c) word) others) =
-    others_more style line last (resting pen.fonts c) (32 ∷ text) refl
+    (others_more style line last (resting pen.fonts c) (32 ∷ text) refl).0
     ∙ ap₂ (λ (i : List Item) (p : Pen). i ++ others_items style line last p (words_of quoted (drop (token_len quoted (32 ∷ text)) (32 ∷ text))).others)
     (there ∙ ap (λ (n : ℕ). shown (Blank 1 false) ∷ prints_word quoted (at line n) pen.fonts n word) back) rests
     ∙ ap (λ (o : List Spaced). shown (Blank 1 false) ∷ prints_word quoted (at line pen.column) pen.fonts pen.column word ++ others_items style line last (word_after style (white_pen style pen.fonts c) word) o) left in
@@ -168,7 +168,7 @@ after_same : (style : TextStyle) (pen : Pen) (text : List ℕ) → GoesOn style 
 after_same style pen text h begins prints =
     let c = pen.column - 1 in
     let one = blank_len style.is_quoted text begins in
-    let rests = after_spaced_word style (resting pen.fonts c) (32 ∷ text) (32 ∷ []) text 1 (sym one) refl refl begins in
+    let rests = (spaced_word style 0 0 (resting pen.fonts c) (32 ∷ text) (32 ∷ []) text 1 (sym one) refl refl begins).1 in
     let quoted = style.is_quoted in
     let word = (words_of quoted text).word in
     let others = (words_of quoted text).others in
@@ -176,7 +176,7 @@ after_same style pen text h begins prints =
     let here : first_after style pen (words_of quoted text) ≡ others_after style (word_after style (white_pen style pen.fonts c) word) others =
     ap (λ (p : Pen). others_after style p others) (here_rests style pen word h (prints.0 pen.column)) in
     let other : others_after style (resting pen.fonts c) (words_of quoted (32 ∷ text)).others ≡ others_after style (word_after style (white_pen style pen.fonts c) word) others =
-    after_others_more style (resting pen.fonts c) (32 ∷ text) refl
+    (others_more style 0 0 (resting pen.fonts c) (32 ∷ text) refl).1
     ∙ ap₂ (λ (p : Pen) (o : List Spaced). others_after style p o) rests left in
     here ∙ sym other
 

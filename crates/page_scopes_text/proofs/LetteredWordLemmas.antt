@@ -16,7 +16,7 @@ use Rattle.page_scopes_words.specs.Words.{at, gap_after, pen_through, white_afte
 use Rattle.page_scopes_words.specs.declared.settings.Setting.{Setting}
 use Rattle.page_scopes_words.specs.declared.fonts.Fonts.{Fonts}
 use Rattle.page_scopes_text.proofs.PartedLemmas.{blank_len, no_word}
-use Rattle.page_scopes_text.proofs.TextLemmas.{after_others_more, after_spaced_word, others_more, spaced_word}
+use Rattle.page_scopes_text.proofs.TextLemmas.{others_more, spaced_word}
 use Rattle.page_scopes_text.specs.Texts.{Spaced, words_of, others_after, others_items, place_after, spaced_after, spaced_items, white_items, body_items, empty_items, gap_items, tokens_items, word_items, word_notes}
 use Rattle.page_scopes_text.specs.laws.Views.{spaced_front}
 use Rattle.page_scopes_words.specs.machine.Pens.{resting}
@@ -83,7 +83,7 @@ word_reads style fonts tail next rest cells literal begins ends some r =
     λ column after e. r.pens (column + 1) after (omega (arith, e)) ∙ rw (none, has) refl in
     let rests : (column after : ℕ) → after + length rest ≡ column + suc (length tail)
     → spaced_after style (resting fonts column) (spaced_front quoted (32 ∷ tail)) ≡ resting next after =
-    λ column after e. after_spaced_word style (resting fonts column) (32 ∷ tail) (32 ∷ []) tail 1 (sym one) refl refl begins
+    λ column after e. (spaced_word style 0 0 (resting fonts column) (32 ∷ tail) (32 ∷ []) tail 1 (sym one) refl refl begins).1
     ∙ word_rests style fonts next column after word literal (through column after e) in
     record {
       less = omega (arith, r.less);
@@ -93,18 +93,18 @@ word_reads style fonts tail next rest cells literal begins ends some r =
           let items : tokens_items quoted (at line (column + 1)) (inside fonts (column + 1) false) word ≡ map shown i.0 = i.3 ∙ rw none (append-nil (map shown i.0)) in
           let notes : word_notes quoted (at line (column + 1)) word ≡ [] = r.notes (at line (column + 1)) ∙ rw none refl in
           let first : spaced_items style line last (resting fonts column) (spaced_front quoted (32 ∷ tail)) ≡ shown (Blank 1 false) ∷ map shown i.0 =
-          spaced_word style line last (resting fonts column) (32 ∷ tail) (32 ∷ []) tail 1 (sym one) refl refl begins
+          (spaced_word style line last (resting fonts column) (32 ∷ tail) (32 ∷ []) tail 1 (sym one) refl refl begins).0
           ∙ word_gives style line fonts next column after word i.0 literal notes items (through column after e) in (
             i.0 ∷ [],
             rw (has_piece i.0 cells i.2 some, i.1) refl,
             one_cells i.0 cells i.2,
-            others_more style line last (resting fonts column) (32 ∷ tail) refl
+            (others_more style line last (resting fonts column) (32 ∷ tail) refl).0
                 ∙ ap₂ (λ (a : List Item) (p : Pen). a ++ others_items style line last p later) first (rests column after e)
                 ∙ ap (λ (o : List Spaced). (shown (Blank 1 false) ∷ map shown i.0) ++ others_items style line last (resting next after) o) left
                 ∙ ap (λ (p : List (Piece (List ℕ))). map shown p ++ others_items style line last (resting next after) (words_of quoted rest).others) (sym (one_pieces i.0)),
           );
       pens = λ column after e.
-          sym (after_others_more style (resting fonts column) (32 ∷ tail) refl ∙ ap (λ (p : Pen). others_after style p later) (rests column after e)
+          sym ((others_more style 0 0 (resting fonts column) (32 ∷ tail) refl).1 ∙ ap (λ (p : Pen). others_after style p later) (rests column after e)
           ∙ ap (others_after style (resting next after)) left);
     }
 

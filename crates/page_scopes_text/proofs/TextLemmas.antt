@@ -27,78 +27,57 @@ next_word quoted text h =
 
 pub spaced_word : (style : TextStyle) (line last : ℕ) (pen : Pen) (text white rest : List ℕ) (n : ℕ) → n ≡ token_len style.is_quoted text
     → white ≡ take n text → rest ≡ drop n text → begins_word rest ≡ true
-    → spaced_items style line last pen (spaced_front style.is_quoted text)
+    → (spaced_items style line last pen (spaced_front style.is_quoted text)
     ≡ white_items style (place_after line pen white) white
-    ++ word_items style line (has_tab white) (white_after style pen white) (words_of style.is_quoted rest).word
-spaced_word style line last pen text white rest n e w r h =
-    rw (← e, ← w, ← r, next_word style.is_quoted rest h) refl
+    ++ word_items style line (has_tab white) (white_after style pen white) (words_of style.is_quoted rest).word)
+    × (spaced_after style pen (spaced_front style.is_quoted text) ≡ word_after style (white_after style pen white) (words_of style.is_quoted rest).word)
+spaced_word style line last pen text white rest n e w r h = rw (← e, ← w, ← r, next_word style.is_quoted rest h) (refl, refl)
 
-pub after_spaced_word : (style : TextStyle) (pen : Pen) (text white rest : List ℕ) (n : ℕ) → n ≡ token_len style.is_quoted text
-    → white ≡ take n text → rest ≡ drop n text → begins_word rest ≡ true
-    → spaced_after style pen (spaced_front style.is_quoted text) ≡ word_after style (white_after style pen white) (words_of style.is_quoted rest).word
-after_spaced_word style pen text white rest n e w r h = rw (← e, ← w, ← r, next_word style.is_quoted rest h) refl
-
-pub spaced_end : (style : TextStyle) (line last : ℕ) (pen : Pen) (text white rest : List ℕ) (n : ℕ) → n ≡ token_len style.is_quoted text
+spaced_end : (style : TextStyle) (line last : ℕ) (pen : Pen) (text white rest : List ℕ) (n : ℕ) → n ≡ token_len style.is_quoted text
     → white ≡ take n text → rest ≡ drop n text → begins_word rest ≡ false
-    → spaced_items style line last pen (spaced_front style.is_quoted text) ≡ white_items style (at line last) white
+    → (spaced_items style line last pen (spaced_front style.is_quoted text) ≡ white_items style (at line last) white)
+    × (spaced_after style pen (spaced_front style.is_quoted text) ≡ white_after style pen white)
 spaced_end style line last pen text white rest n e w r h =
-    rw (← e, ← w, ← r, no_word style.is_quoted rest h) (append-nil (white_items style (at line last) white))
-
-pub after_spaced_end : (style : TextStyle) (pen : Pen) (text white rest : List ℕ) (n : ℕ) → n ≡ token_len style.is_quoted text
-    → white ≡ take n text → rest ≡ drop n text → begins_word rest ≡ false
-    → spaced_after style pen (spaced_front style.is_quoted text) ≡ white_after style pen white
-after_spaced_end style pen text white rest n e w r h = rw (← e, ← w, ← r, no_word style.is_quoted rest h) refl
+    rw (← e, ← w, ← r, no_word style.is_quoted rest h) (append-nil (white_items style (at line last) white), refl)
 
 -- ---- one part after another
 
 pub others_more : (style : TextStyle) (line last : ℕ) (pen : Pen) (text : List ℕ) → begins_white text ≡ true
-    → others_items style line last pen (words_of style.is_quoted text).others
+    → (others_items style line last pen (words_of style.is_quoted text).others
     ≡ spaced_items style line last pen (spaced_front style.is_quoted text)
-    ++ others_items style line last (spaced_after style pen (spaced_front style.is_quoted text)) (words_of style.is_quoted (drop (token_len style.is_quoted text) text)).others
+    ++ others_items style line last (spaced_after style pen (spaced_front style.is_quoted text)) (words_of style.is_quoted (drop (token_len style.is_quoted text) text)).others)
+    × (others_after style pen (words_of style.is_quoted text).others
+    ≡ others_after style (spaced_after style pen (spaced_front style.is_quoted text)) (words_of style.is_quoted (drop (token_len style.is_quoted text) text)).others)
 others_more style line last pen text h =
-    ap (λ (t : Parted). others_items style line last pen t.others)
-    (spaced_more style.is_quoted text (token_len style.is_quoted text) h (white_some style.is_quoted text h) refl)
-
-pub after_others_more : (style : TextStyle) (pen : Pen) (text : List ℕ) → begins_white text ≡ true
-    → others_after style pen (words_of style.is_quoted text).others
-    ≡ others_after style (spaced_after style pen (spaced_front style.is_quoted text)) (words_of style.is_quoted (drop (token_len style.is_quoted text) text)).others
-after_others_more style pen text h =
-    ap (λ (t : Parted). others_after style pen t.others)
-    (spaced_more style.is_quoted text (token_len style.is_quoted text) h (white_some style.is_quoted text h) refl)
+    let more = spaced_more style.is_quoted text (token_len style.is_quoted text) h (white_some style.is_quoted text h) refl in
+    (ap (λ (t : Parted). others_items style line last pen t.others) more, ap (λ (t : Parted). others_after style pen t.others) more)
 
 -- a word after white space, and those after it
 pub others_spaced : (style : TextStyle) (line last : ℕ) (pen : Pen) (text white rest : List ℕ) (n : ℕ) → begins_white text ≡ true → n ≡ token_len style.is_quoted text
     → white ≡ take n text → rest ≡ drop n text → begins_word rest ≡ true
-    → others_items style line last pen (words_of style.is_quoted text).others
+    → (others_items style line last pen (words_of style.is_quoted text).others
     ≡ white_items style (place_after line pen white) white
-    ++ first_items style line last (has_tab white) (white_after style pen white) (words_of style.is_quoted rest)
+    ++ first_items style line last (has_tab white) (white_after style pen white) (words_of style.is_quoted rest))
+    × (others_after style pen (words_of style.is_quoted text).others ≡ first_after style (white_after style pen white) (words_of style.is_quoted rest))
 others_spaced style line last pen text white rest n b e w r h =
     let parts = words_of style.is_quoted rest in
     let pen_white = white_after style pen white in
-    others_more style line last pen text b
-    ∙ rw (spaced_word style line last pen text white rest n e w r h, after_spaced_word style pen text white rest n e w r h, ← e, ← r)
-    (append_assoc (white_items style (place_after line pen white) white) (word_items style line (has_tab white) pen_white parts.word) _)
-
-pub after_others_spaced : (style : TextStyle) (pen : Pen) (text white rest : List ℕ) (n : ℕ) → begins_white text ≡ true → n ≡ token_len style.is_quoted text
-    → white ≡ take n text → rest ≡ drop n text → begins_word rest ≡ true
-    → others_after style pen (words_of style.is_quoted text).others ≡ first_after style (white_after style pen white) (words_of style.is_quoted rest)
-after_others_spaced style pen text white rest n b e w r h =
-    after_others_more style pen text b ∙ rw (after_spaced_word style pen text white rest n e w r h, ← e, ← r) refl
+    let all = others_more style line last pen text b in
+    let spaced = spaced_word style line last pen text white rest n e w r h in (
+      all.0 ∙ rw (spaced.0, spaced.1, ← e, ← r) (append_assoc (white_items style (place_after line pen white) white) (word_items style line (has_tab white) pen_white parts.word) _),
+      all.1 ∙ rw (spaced.1, ← e, ← r) refl,
+    )
 
 -- white space at a text's end
 pub others_end : (style : TextStyle) (line last : ℕ) (pen : Pen) (text white rest : List ℕ) (n : ℕ) → begins_white text ≡ true → n ≡ token_len style.is_quoted text
     → white ≡ take n text → rest ≡ drop n text → begins_word rest ≡ false
-    → others_items style line last pen (words_of style.is_quoted text).others
-    ≡ white_items style (at line last) white ++ others_items style line last (white_after style pen white) (words_of style.is_quoted rest).others
+    → (others_items style line last pen (words_of style.is_quoted text).others
+    ≡ white_items style (at line last) white ++ others_items style line last (white_after style pen white) (words_of style.is_quoted rest).others)
+    × (others_after style pen (words_of style.is_quoted text).others ≡ others_after style (white_after style pen white) (words_of style.is_quoted rest).others)
 others_end style line last pen text white rest n b e w r h =
-    others_more style line last pen text b
-    ∙ rw (spaced_end style line last pen text white rest n e w r h, after_spaced_end style pen text white rest n e w r h, ← e, ← r) refl
-
-pub after_others_end : (style : TextStyle) (pen : Pen) (text white rest : List ℕ) (n : ℕ) → begins_white text ≡ true → n ≡ token_len style.is_quoted text
-    → white ≡ take n text → rest ≡ drop n text → begins_word rest ≡ false
-    → others_after style pen (words_of style.is_quoted text).others ≡ others_after style (white_after style pen white) (words_of style.is_quoted rest).others
-after_others_end style pen text white rest n b e w r h =
-    after_others_more style pen text b ∙ rw (after_spaced_end style pen text white rest n e w r h, ← e, ← r) refl
+    let all = others_more style line last pen text b in
+    let spaced = spaced_end style line last pen text white rest n e w r h in
+    (all.0 ∙ rw (spaced.0, spaced.1, ← e, ← r) refl, all.1 ∙ rw (spaced.1, ← e, ← r) refl)
 
 pub no_others : (quoted : Bool) (text : List ℕ) → length text ≤ 0 → (words_of quoted text).others ≡ []
 no_others quoted text h = ap (λ (t : Parted). t.others) (words_none quoted text h)
@@ -106,65 +85,52 @@ no_others quoted text h = ap (λ (t : Parted). t.others) (words_none quoted text
 -- ---- a whole text
 
 pub text_word : (style : TextStyle) (line last : ℕ) (pen : Pen) (text : List ℕ) → begins_word text ≡ true
-    → words_items style line last pen (words_of style.is_quoted text)
+    → (words_items style line last pen (words_of style.is_quoted text)
     ≡ word_items style line false pen (words_of style.is_quoted text).word
-    ++ others_items style line last (word_after style pen (words_of style.is_quoted text).word) (words_of style.is_quoted text).others
+    ++ others_items style line last (word_after style pen (words_of style.is_quoted text).word) (words_of style.is_quoted text).others)
+    × (text_after style pen (words_of style.is_quoted text)
+    ≡ others_after style (word_after style pen (words_of style.is_quoted text).word) (words_of style.is_quoted text).others)
 text_word style line last pen text h =
-    rw (words_more style.is_quoted text (token_len style.is_quoted text) h (word_some style.is_quoted text h) refl) refl
-
-pub after_text_word : (style : TextStyle) (pen : Pen) (text : List ℕ) → begins_word text ≡ true
-    → text_after style pen (words_of style.is_quoted text)
-    ≡ others_after style (word_after style pen (words_of style.is_quoted text).word) (words_of style.is_quoted text).others
-after_text_word style pen text h =
-    rw (words_more style.is_quoted text (token_len style.is_quoted text) h (word_some style.is_quoted text h) refl) refl
+    rw (words_more style.is_quoted text (token_len style.is_quoted text) h (word_some style.is_quoted text h) refl) (refl, refl)
 
 pub text_none : (style : TextStyle) (line last : ℕ) (pen : Pen) (text : List ℕ) → length text ≤ 0
-    → words_items style line last pen (words_of style.is_quoted text) ≡ word_items style line false pen (words_of style.is_quoted text).word
-text_none style line last pen text h = rw (words_none style.is_quoted text h) refl
+    → (words_items style line last pen (words_of style.is_quoted text) ≡ word_items style line false pen (words_of style.is_quoted text).word)
+    × (text_after style pen (words_of style.is_quoted text) ≡ word_after style pen (words_of style.is_quoted text).word)
+text_none style line last pen text h = rw (words_none style.is_quoted text h) (refl, refl)
 
-pub after_text_none : (style : TextStyle) (pen : Pen) (text : List ℕ) → length text ≤ 0
-    → text_after style pen (words_of style.is_quoted text) ≡ word_after style pen (words_of style.is_quoted text).word
-after_text_none style pen text h = rw (words_none style.is_quoted text h) refl
-
-pub text_leading : (style : TextStyle) (line last : ℕ) (pen : Pen) (text : List ℕ) → begins_white text ≡ true
-    → words_items style line last pen (words_of style.is_quoted text)
+text_leading : (style : TextStyle) (line last : ℕ) (pen : Pen) (text : List ℕ) → begins_white text ≡ true
+    → (words_items style line last pen (words_of style.is_quoted text)
     ≡ leading_items style line last pen (spaced_front style.is_quoted text)
-    ++ others_items style line last (leading_after style pen (spaced_front style.is_quoted text)) (words_of style.is_quoted (drop (token_len style.is_quoted text) text)).others
+    ++ others_items style line last (leading_after style pen (spaced_front style.is_quoted text)) (words_of style.is_quoted (drop (token_len style.is_quoted text) text)).others)
+    × (text_after style pen (words_of style.is_quoted text)
+    ≡ others_after style (leading_after style pen (spaced_front style.is_quoted text)) (words_of style.is_quoted (drop (token_len style.is_quoted text) text)).others)
 text_leading style line last pen text h =
-    ap (words_items style line last pen) (spaced_more style.is_quoted text (token_len style.is_quoted text) h (white_some style.is_quoted text h) refl)
-
-pub after_text_leading : (style : TextStyle) (pen : Pen) (text : List ℕ) → begins_white text ≡ true
-    → text_after style pen (words_of style.is_quoted text)
-    ≡ others_after style (leading_after style pen (spaced_front style.is_quoted text)) (words_of style.is_quoted (drop (token_len style.is_quoted text) text)).others
-after_text_leading style pen text h =
-    ap (text_after style pen) (spaced_more style.is_quoted text (token_len style.is_quoted text) h (white_some style.is_quoted text h) refl)
+    let more = spaced_more style.is_quoted text (token_len style.is_quoted text) h (white_some style.is_quoted text h) refl in
+    (ap (words_items style line last pen) more, ap (text_after style pen) more)
 
 -- white space that ends no row is a text's front like any other, but for the blank before it
 pub text_gap : (style : TextStyle) (line last : ℕ) (pen : Pen) (text : List ℕ) → is_indented style ≡ false → begins_white text ≡ true
-    → words_items style line last pen (words_of style.is_quoted text)
+    → (words_items style line last pen (words_of style.is_quoted text)
     ≡ (if has_gap_cells style pen then blank_cells 1 R (gap_place line last pen (spaced_front style.is_quoted text)) else [])
-    ++ others_items style line last pen (words_of style.is_quoted text).others
+    ++ others_items style line last pen (words_of style.is_quoted text).others)
+    × (text_after style pen (words_of style.is_quoted text) ≡ others_after style pen (words_of style.is_quoted text).others)
 text_gap style line last pen text indented h =
     let part = spaced_front style.is_quoted text in
     let gap = if has_gap_cells style pen then blank_cells 1 R (gap_place line last pen part) else [] in
-    text_leading style line last pen text h
-    ∙ rw indented (append_assoc gap (spaced_items style line last pen part) _)
-    ∙ ap (λ (items : List Item). gap ++ items) (sym (others_more style line last pen text h))
-
-pub after_text_gap : (style : TextStyle) (pen : Pen) (text : List ℕ) → is_indented style ≡ false → begins_white text ≡ true
-    → text_after style pen (words_of style.is_quoted text) ≡ others_after style pen (words_of style.is_quoted text).others
-after_text_gap style pen text indented h = after_text_leading style pen text h ∙ rw indented (sym (after_others_more style pen text h))
+    let all = text_leading style line last pen text h in
+    let others = others_more style line last pen text h in (
+      all.0 ∙ rw indented (append_assoc gap (spaced_items style line last pen part) _) ∙ ap (λ (items : List Item). gap ++ items) (sym others.0),
+      all.1 ∙ rw indented (sym others.1),
+    )
 
 -- white space that ends a row is cells of the first word
 pub text_indented : (style : TextStyle) (line last : ℕ) (pen : Pen) (text : List ℕ) → is_indented style ≡ true → begins_white text ≡ true
-    → words_items style line last pen (words_of style.is_quoted text)
+    → (words_items style line last pen (words_of style.is_quoted text)
     ≡ indented_items style.is_quoted line pen (spaced_front style.is_quoted text)
     ++ others_items style line last (body_after (indented_pen pen (spaced_front style.is_quoted text).white) (spaced_front style.is_quoted text).word)
-    (words_of style.is_quoted (drop (token_len style.is_quoted text) text)).others
-text_indented style line last pen text indented h = text_leading style line last pen text h ∙ rw indented refl
-
-pub after_text_indented : (style : TextStyle) (pen : Pen) (text : List ℕ) → is_indented style ≡ true → begins_white text ≡ true
-    → text_after style pen (words_of style.is_quoted text)
+    (words_of style.is_quoted (drop (token_len style.is_quoted text) text)).others)
+    × (text_after style pen (words_of style.is_quoted text)
     ≡ others_after style (body_after (indented_pen pen (spaced_front style.is_quoted text).white) (spaced_front style.is_quoted text).word)
-    (words_of style.is_quoted (drop (token_len style.is_quoted text) text)).others
-after_text_indented style pen text indented h = after_text_leading style pen text h ∙ rw indented refl
+    (words_of style.is_quoted (drop (token_len style.is_quoted text) text)).others)
+text_indented style line last pen text indented h =
+    let all = text_leading style line last pen text h in (all.0 ∙ rw indented refl, all.1 ∙ rw indented refl)

@@ -4,14 +4,13 @@ use Rattle.page_scopes_text.proofs.TextLemmas.{no_others}
 use Rattle.page_scopes_text.specs.Texts.{others_after}
 use Rattle.page_scopes_text.proofs.texts.give_others.Goals as goal
 
-pub returns-clause-came : goal.returns-clause-came
-returns-clause-came g c = λ plan rest h.
+pub returns : goal.returns
+returns g c =
     let l = c.loop-rest in
     let none : length l.rest.now ≤ 0 = grind (arith, nat_tests) in
-    rw (no_others c.args.style.is_quoted l.rest.now none) at (l.invariant.came plan rest h)
-
-pub returns-clause-pen : goal.returns-clause-pen
-returns-clause-pen g c =
-    let l = c.loop-rest in
-    let none : length l.rest.now ≤ 0 = grind (arith, nat_tests) in
-    sym (l.invariant.pen ∙ ap (others_after c.args.style l.pen) (no_others c.args.style.is_quoted l.rest.now none))
+    record {
+      came = λ plan rest h.
+          let none : length l.rest.now ≤ 0 = grind (arith, nat_tests) in
+          rw (no_others c.args.style.is_quoted l.rest.now none) at (l.invariant.came plan rest h);
+      pen = sym (l.invariant.pen ∙ ap (others_after c.args.style l.pen) (no_others c.args.style.is_quoted l.rest.now none));
+    }
