@@ -35,10 +35,7 @@ bare_run (byte ∷ bytes) = grind (arith, bare_run bytes, drop-drop (prefix_len 
 
 pub bare_begins : (text : List ℕ) → 0 < length text → get_or text 0 0 ≢ 32 → get_or text 0 0 ≢ 92 → 0 < prefix_len is_unescaped text
 bare_begins [] h e f = absurd (omega arith)
-bare_begins (byte ∷ bytes) h e f =
-    let t : (byte == 32) ≡ false = grind (arith, nat_tests) in
-    let s : (byte == 92) ≡ false = grind (arith, nat_tests) in
-    rw (t, s) (omega arith)
+bare_begins (byte ∷ bytes) h e f = grind (arith, nat_tests)
 
 ends_at : (text : List ℕ) (x : ℕ) (xs : List ℕ) → text ≡ x ∷ xs → is_blank x ≡ true → bare_len text ≡ 0
 ends_at text x [] e p = rw (e, p) refl
@@ -98,11 +95,7 @@ quoted_to text None h = quoted_run text (length text) (omega arith) (λ k l. oth
 quoted_to text (Some n) h = quoted_run text n (omega (arith, h.0.high)) (λ k l. other (get_or text k 0) (h.0.before k (omega arith) l))
 
 found_other : (b : ℕ) → is_byte2 34 92 b ≡ true → b ≢ 34 → b ≢ 92 → ⊥
-found_other b t e f =
-    let u : (b == 34) ≡ false = grind (arith, nat_tests) in
-    let v : (b == 92) ≡ false = grind (arith, nat_tests) in
-    let no : false ≡ true = rw (u, v) at t in
-    cc
+found_other b t e f = grind (arith, nat_tests)
 
 pub quoted_some : (text : List ℕ) (r : Option ℕ) → IsFirstByte (is_byte2 34 92) text r → 0 < length text → get_or text 0 0 ≢ 34 → get_or text 0 0 ≢ 92
     → 0 < unwrap_or r (length text)
