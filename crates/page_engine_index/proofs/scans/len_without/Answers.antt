@@ -5,21 +5,16 @@ use Rattle.memchr.specs.Find.{is_byte2}
 use Rattle.page_engine_index.proofs.ScanLemmas.{none_more, vector_none, vector_some}
 use Rattle.page_engine_index.proofs.scans.len_without.Goals as goal
 
-pub returns-then-found-ne0-clause-within : goal.returns-then-found-ne0-clause-within
-returns-then-found-ne0-clause-within c =
+pub returns-then-found-ne0 : goal.returns-then-found-ne0
+returns-then-found-ne0 c =
     let found = c.hits-found in
     let at = c.loop-at.at in
     let room : at + 32 ≤ length c.args.text.now = omega arith in
     let run = vector_some (is_byte2 c.args.one c.args.other) c.args.text.now at 32 _ room (omega arith) (omega (arith, found.ensures)) (ap (count_trailing_zeros 64) found.ensures) in
-    omega (arith, run.1, room)
-
-pub returns-then-found-ne0-clause-neither : goal.returns-then-found-ne0-clause-neither
-returns-then-found-ne0-clause-neither c =
-    let found = c.hits-found in
-    let at = c.loop-at.at in
-    let room : at + 32 ≤ length c.args.text.now = omega arith in
-    let run = vector_some (is_byte2 c.args.one c.args.other) c.args.text.now at 32 _ room (omega arith) (omega (arith, found.ensures)) (ap (count_trailing_zeros 64) found.ensures) in
-    none_more (is_byte2 c.args.one c.args.other) c.args.text.now at _ c.loop-at.invariant.neither run.0
+    record {
+      within = omega (arith, run.1, room);
+      neither = none_more (is_byte2 c.args.one c.args.other) c.args.text.now at _ c.loop-at.invariant.neither run.0;
+    }
 
 pub loop-at-preserved : goal.loop-at-preserved
 loop-at-preserved c =
