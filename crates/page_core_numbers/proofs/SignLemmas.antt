@@ -1,13 +1,10 @@
 -- Signs before an operand.
-use Rattle.std.proofs.Common.{◌≡◌, ℕ, zero, suc, ◌+◌, ◌==◌, Bool, false, List, [], ◌∷◌, get_or, Option, None, Some, ℤ, neg_ℤ, add-one, refl, sym, ap, ◌∙◌}
+use Rattle.std.proofs.Common.{◌≡◌, ℕ, zero, suc, ◌+◌, ◌==◌, Bool, false, List, [], ◌∷◌, get_or, Option, None, Some, ℤ, neg_ℤ, add-one, refl, sym, ap, ◌∙◌, inl, inr}
 use Rattle.std.proofs.lemmas.Bool.{cases_Bool}
-use Rattle.std.proofs.Common.{inl, inr}
 use Rattle.page_core_numbers.specs.declared.scales.Scale.{Scale}
 use Rattle.page_core_numbers.specs.declared.troubles.Trouble.{Trouble}
 use Rattle.page_core_numbers.specs.Expressions.{Read, negated_operand, operand_by, in_range}
 use Rattle.page_core_numbers.specs.machine.Signs.{minus_count, after_signs, negated_value, negated_times}
-
--- ---- signs from a place on
 
 -- ---- what an operand with signs is
 
@@ -26,27 +23,15 @@ operand-signs inside scale (b ∷ bs) =
     ]
 
 -- there is no sign after signs
-pub after_signs-front : (text : List ℕ) → (get_or (after_signs text) 0 0 == 45) ≡ false
-after_signs-front [] = refl
+pub after_signs-front : (text : List ℕ) → ((get_or (after_signs text) 0 0 == 45) ≡ false) × ((get_or (after_signs text) 0 0 == 43) ≡ false)
+after_signs-front [] = (refl, refl)
 after_signs-front (b ∷ bs) =
     elim (cases_Bool (b == 45)) [
       | inl minus ↦ rw minus (after_signs-front bs)
       | inr no_minus ↦
           elim (cases_Bool (b == 43)) [
             | inl plus ↦ rw (no_minus, plus) (after_signs-front bs)
-            | inr no_plus ↦ rw (no_minus, no_plus) no_minus
-          ]
-    ]
-
-pub after_signs-plus : (text : List ℕ) → (get_or (after_signs text) 0 0 == 43) ≡ false
-after_signs-plus [] = refl
-after_signs-plus (b ∷ bs) =
-    elim (cases_Bool (b == 45)) [
-      | inl minus ↦ rw minus (after_signs-plus bs)
-      | inr no_minus ↦
-          elim (cases_Bool (b == 43)) [
-            | inl plus ↦ rw (no_minus, plus) (after_signs-plus bs)
-            | inr no_plus ↦ rw (no_minus, no_plus) no_plus
+            | inr no_plus ↦ rw (no_minus, no_plus) (no_minus, no_plus)
           ]
     ]
 

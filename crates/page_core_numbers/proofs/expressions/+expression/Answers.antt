@@ -4,7 +4,7 @@ use Rattle.page_core_numbers.specs.Expressions.{first, after_operation, operand_
 use Rattle.page_core_numbers.specs.machine.CodeValues.{expression_view, operand_view, found_view, count_of}
 use Rattle.page_core_numbers.specs.machine.Signs.{inside_of}
 use Rattle.page_core_numbers.proofs.ExpressionLemmas.{operand-number, operand-inside, operand-full, goes-on, goes-end, goes-first, goes-around, over-all, opening-drop}
-use Rattle.page_core_numbers.proofs.SignLemmas.{operand-signed, after_signs-front, after_signs-plus}
+use Rattle.page_core_numbers.proofs.SignLemmas.{operand-signed, after_signs-front}
 use Rattle.page_core_numbers.proofs.expressions.+expression.Goals as goal
 use Rattle.page_core_numbers.proofs.expressions.+expression.Goals.{read_operand-in-None, read_operand-in-Some+then-room-eq0, read_operand-in-Some+else-room-eq0}
 
@@ -94,7 +94,7 @@ read_operand-returns-clause-value t c =
     elim c.match-after_open.branch [
       | read_operand-in-None w ↦
           ap operand_view w.operand-is ∙ w.read_number_operand-operand.ensures.value
-          ∙ sym (operand-number (inside_of room scale) scale unsigned (rw signs.ensures.rest (after_signs-front c.args.text.now)) (rw signs.ensures.rest (after_signs-plus c.args.text.now))
+          ∙ sym (operand-number (inside_of room scale) scale unsigned (rw signs.ensures.rest (after_signs-front c.args.text.now).0) (rw signs.ensures.rest (after_signs-front c.args.text.now).1)
           (sym c.after_open.ensures.value ∙ ap option_copied w.in-None.is))
       | read_operand-in-Some+then-room-eq0 w ↦
           ap operand_view w.operand-is ∙ w.no_operand.ensures.value
