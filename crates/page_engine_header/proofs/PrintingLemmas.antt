@@ -26,7 +26,8 @@ use Rattle.page_engine_header.specs.laws.Views.{fonts_after}
 -- ---- tokens after tokens
 
 columns_append : (output : Output) (xs ys : List TextToken) → tokens_columns output (xs ++ ys) ≡ tokens_columns output xs + tokens_columns output ys
-columns_append output xs ys = sum_by-append (λ token. characters_columns (token_printed output token)) xs ys
+columns_append output [] ys = omega arith
+columns_append output (x ∷ xs) ys = let e = columns_append output xs ys in omega (arith, e)
 
 items_append : (output : Output) (place : Place) (fonts : Fonts) (xs ys : List TextToken)
     → tokens_items output place fonts (xs ++ ys) ≡ tokens_items output place fonts xs ++ tokens_items output place (fonts_after fonts xs) ys

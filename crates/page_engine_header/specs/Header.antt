@@ -28,7 +28,9 @@ use Rattle.page_engine_header.specs.declared.headers.Measure.{Measure}
 
 -- the columns of what tokens print
 abbrev pub tokens_columns : Output → List TextToken → ℕ
-tokens_columns output tokens = sum_by (λ token. characters_columns (token_printed output token)) tokens
+tokens_columns output [] = 0
+tokens_columns output (token ∷ tokens) =
+    characters_columns (token_printed output token) + tokens_columns output tokens
 
 -- characters in a font
 abbrev pub in_font : Font → Place → List ℕ → List Item
