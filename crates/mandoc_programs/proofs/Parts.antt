@@ -1,5 +1,5 @@
 -- What came of pages.
-use Rattle.std.proofs.Common.{◌≡◌, ℕ, Bool, true, false, List, [], ◌∷◌, inl, inr, ◌++◌, Option, Some, None, Result, Ok, Err, refl, sym, ap, ◌∙◌, subst, length, take, drop, ◌<◌, ◌≤◌, append-nil, append_assoc, arith, map, get_or, ◌+◌, ◌-◌}
+use Rattle.std.proofs.Common.{◌≡◌, ℕ, Bool, true, false, List, [], ◌∷◌, inl, inr, ◌++◌, Option, Some, None, Result, Ok, Err, refl, sym, ap, ◌∙◌, subst, length, take, drop, ◌<◌, ◌≤◌, append-nil, append_assoc, arith, map, ◌+◌, ◌-◌}
 use Rattle.std.specs.Prelude.{IsOk, IsSorted, MatchResult, ◌⊎◌}
 use Rattle.std.specs.Ordering.{is_lt}
 use Rattle.std.specs.declared.cmp.Ordering.{Ordering}

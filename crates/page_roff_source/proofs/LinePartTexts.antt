@@ -11,7 +11,7 @@ use Rattle.page_roff_heads.specs.declared.loops.LoopRead.{LoopRead}
 use Rattle.page_roff_heads.specs.declared.texts.Placed.{Placed}
 use Rattle.page_roff_heads.specs.Heads.{guarded_of, conditional_of, block_end_of, loop_of}
 use Rattle.page_roff_blocks.specs.declared.line_parts.LinePart.{LinePart}
-use Rattle.page_roff_blocks.specs.declared.line_parts.LinePart.TheVariants.{Leaf, Guard, Block, Loop, End, Region}
+use Rattle.page_roff_blocks.specs.declared.line_parts.LinePart.TheVariants.{Leaf, Block, Loop, End, Region}
 use Rattle.page_roff_blocks.specs.declared.line_parts.Head.{Head}
 use Rattle.page_roff_blocks.specs.declared.line_parts.Opening.{Opening}
 use Rattle.page_roff_blocks.specs.declared.line_parts.Opening.TheVariants as openings

@@ -1,4 +1,4 @@
-use Rattle.std.proofs.Common.{[], refl, sym, subst}
+use Rattle.std.proofs.Common.{refl, sym, subst}
 use Rattle.page_core_streams.specs.laws.Views.{Grows-nil}
 use Rattle.mandoc_command.specs.declared.commands.Command.{Command}
 use Rattle.mandoc_programs.specs.Commands.{IsRun, Run, run_of}

@@ -3,7 +3,6 @@ use Rattle.page_core_streams.specs.Streams.{Grows}
 use Rattle.page_core_streams.specs.laws.Views.{Grows-nil}
 use Rattle.mandoc_programs.specs.declared.pages.Form.{Form}
 use Rattle.mandoc_programs.specs.Indexes.{IsDir, Makes}
-use Rattle.mandoc_formats.specs.Turns.{Does}
 use Rattle.mandoc_programs.proofs.indexing.give_dir.Goals as goal
 
 pub returns-in-Printed-clause-came : goal.returns-in-Printed-clause-came

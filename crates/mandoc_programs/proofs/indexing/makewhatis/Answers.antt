@@ -1,9 +1,9 @@
-use Rattle.std.proofs.Common.{◌≡◌, ℕ, List, ◌++◌, refl, ap, sym, ◌∙◌, subst, arith, max}
+use Rattle.std.proofs.Common.{◌≡◌, ℕ, List, refl, ap, sym, ◌∙◌, subst, arith, max}
 use Rattle.std.specs.Prelude.{string_bytes}
 use Rattle.page_core_streams.specs.Streams.{Grows}
 use Rattle.page_core_streams.specs.laws.Views.{Grows-nil, Grows-append}
 use Rattle.mandoc_programs.specs.declared.pages.Form.{Form}
-use Rattle.mandoc_programs.specs.Indexes.{Index, IsDir, form_of, none_made, so, stops_making}
+use Rattle.mandoc_programs.specs.Indexes.{Index, IsDir, none_made, so, stops_making}
 use Rattle.mandoc_formats.specs.Turns.{worse, InTurn}
 use Rattle.mandoc_formats.proofs.Lists.{left_so, worse as worst_is}
 use Rattle.mandoc_formats.proofs.Turns.{passed_none, passed_on, ended_at, ended_last, start}

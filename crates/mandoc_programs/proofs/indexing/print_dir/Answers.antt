@@ -1,4 +1,4 @@
-use Rattle.std.proofs.Common.{[], ◌++◌, false, refl, sym, subst, inl, inr}
+use Rattle.std.proofs.Common.{[], ◌++◌, false, refl, subst, inl, inr}
 use Rattle.page_core_streams.specs.laws.Views.{Grows-nil, Grows-append}
 use Rattle.mandoc_programs.specs.declared.pages.Form.{Form}
 use Rattle.mandoc_formats.specs.Formats.{shown, unopened_line}

@@ -1,4 +1,4 @@
-use Rattle.std.proofs.Common.{[], Ok, Err, refl, sym, ap, ◌∙◌, inl, inr}
+use Rattle.std.proofs.Common.{[], Ok, Err, refl, sym, ap, inl, inr}
 use Rattle.page_core_base.specs.declared.faults.Fault.TheVariants.{WriteText}
 use Rattle.page_core_streams.specs.laws.Views.{Grows-nil}
 use Rattle.mandoc_programs.specs.Indexes.{entry_by, with}

@@ -1,4 +1,4 @@
-use Rattle.std.proofs.Common.{ℕ, List, ◌++◌, Result, refl, sym, subst}
+use Rattle.std.proofs.Common.{◌++◌, Result, refl, sym, subst}
 use Rattle.page_core_base.specs.declared.faults.Fault.{Fault}
 use Rattle.page_core_streams.specs.laws.Views.{Grows-append}
 use Rattle.mandoc_programs.specs.declared.pages.Tally.{Tally}

@@ -1,8 +1,8 @@
-use Rattle.std.proofs.Common.{List, map, nat_cmp, subst}
+use Rattle.std.proofs.Common.{List, map, nat_cmp}
 use Rattle.std.specs.Prelude.{string_bytes}
 use Rattle.std.specs.Cmp.Lexicographic.{slice_cmp}
 use Rattle.std.proofs.lemmas.List.Sorted.{IsPermutation-map}
-use Rattle.mandoc_programs.specs.Indexes.{IsPage, PartsOf}
+use Rattle.mandoc_programs.specs.Indexes.{IsPage}
 use Rattle.mandoc_programs.proofs.Parts.{sorted_map}
 use Rattle.mandoc_programs.proofs.pages.Pages.give_sorted.Goals as goal
 
