@@ -1,5 +1,5 @@
 -- What all effects of parts keep, the lines of a page keep, with the macros that they call and their loops: helpers of proofs.
-use Rattle.std.proofs.Common.{◌≡◌, ℕ, zero, suc, Bool, true, false, ◌&&◌, not, List, Option, Some, None, refl}
+use Rattle.std.proofs.Common.{ℕ, zero, suc, Bool, true, false, ◌&&◌, not, List, Option, Some, None, refl}
 use Rattle.page_roff_heads.specs.declared.conditions.Condition.{Condition}
 use Rattle.page_roff_heads.specs.declared.loops.LoopHead.{LoopHead}
 use Rattle.page_roff_blocks.specs.declared.line_parts.Head.{Head}
