@@ -1,6 +1,6 @@
 -- The causes of faults, from sinks to what lies below them.
-use Rattle.std.proofs.Common.{◌≡◌, ℕ, List, Result, Ok, Err, MatchResult, sym, ap, ◌∙◌, subst, inl, inr}
-use Rattle.page_core_base.specs.Messages.{IsSinkFault, Message, Rose}
+use Rattle.std.proofs.Common.{◌≡◌, ℕ, List, Result, Ok, Err, sym, ap, ◌∙◌, subst, inl, inr}
+use Rattle.page_core_base.specs.Messages.{IsSinkFault, Message}
 use Rattle.page_core_base.specs.Rows.{Laid, LaidRow, nothing}
 use Rattle.page_core_base.specs.declared.faults.Fault.{Fault}
 use Rattle.page_core_base.specs.declared.faults.Fault.TheVariants.{Memory, Read, WriteText, WriteNotes, TooLong, Settings, Failed, Ended, BadIndex}
@@ -10,7 +10,7 @@ use Rattle.page_roff_lines.specs.Lines.{lines_made, line_left}
 use Rattle.page_engine.specs.declared.runs.Outcome.{Outcome}
 use Rattle.page_engine.specs.Page.{page, settled}
 use Rattle.page_engine.specs.Edges.{start}
-use Rattle.page_engine.specs.Runs.{Runs, RunsOver, StoppedBy, Whole, Broken, BrokeIn, whole_page, settled_page, Sinks, AllCame, FrontCame}
+use Rattle.page_engine.specs.Runs.{RunsOver, Whole, Broken, BrokeIn, whole_page, settled_page, Sinks, AllCame, FrontCame}
 
 -- sinks over what lies below them: what comes to the sinks comes there, where a fact of the sink of messages stays, and they fail as it does
 pub record LieOver {R N W V : Type 0} (k : Sinks R N) (i : Sinks W V) (f : R → W) (g : N → V) (P : N → Type 0) : Type 0 where
@@ -66,31 +66,64 @@ module _ {R N W V : Type 0} (k : Sinks R N) (i : Sinks W V) (f : R → W) (g : N
     cause = cause_at fault _ _ _ _ _ _ _ _ (o.rows_failed r) (o.rows_failed r') (o.notes_failed n) (o.notes_failed n') h.cause;
   }
 
-  -- of the same run, what came to the sinks and the cause are said of what lies below them
-  over : (a b : SourceState) (r r' : R) (n n' : N) (s : PageSettings) (bytes : List ℕ) (res : Result Outcome Fault) (h : RunsOver res k a b r r' n n' s bytes)
-      → Runs res i.to (f r) (f r') (g n) (g n') s bytes b.remaining
-      → MatchResult res (λ _. (b.failed ≡ a.failed) × (i.rows_failed (f r') ≡ i.rows_failed (f r)) × (i.notes_failed (g n') ≡ i.notes_failed (g n)))
-      (λ fault. StoppedBy ((b ≡ a) × (f r' ≡ f r) × (g n' ≡ g n)) (Rose a.failed b.failed) (IsTooLong h.asked bytes)
-      (λ broke. Broken i (f r) (f r') (g n) (g n') s bytes broke) fault)
-      → RunsOver res i a b (f r) (f r') (g n) (g n') s bytes
-  over a b r r' n n' s bytes res h runs cause = record { asked = h.asked; few = h.few; source = h.source; lean = h.lean; runs = runs; cause = cause }
-
   pub caused_on : (a b : SourceState) (r r' : R) (n n' : N) (s : PageSettings) (bytes : List ℕ) (res : Result Outcome Fault) → P n
       → RunsOver res k a b r r' n n' s bytes → RunsOver res i a b (f r) (f r') (g n) (g n') s bytes
-  caused_on a b r r' n n' s bytes (Ok out) p h =
-      over a b r r' n n' s bytes (Ok out) h (whole_on r r' n n' s bytes b.remaining out p h.runs)
-      (h.cause.0, sym (o.rows_failed r') ∙ (h.cause.1 ∙ o.rows_failed r), sym (o.notes_failed n') ∙ (h.cause.2 ∙ o.notes_failed n))
-  caused_on a b r r' n n' s bytes (Err Memory) p h =
-      over a b r r' n n' s bytes (Err Memory) h (h.runs.0, h.runs.1, all_on r r' n n' (nothing (start s)) p h.runs.2) (h.cause.0, ap f h.cause.1, ap g h.cause.2)
-  caused_on a b r r' n n' s bytes (Err Read) p h =
-      over a b r r' n n' s bytes (Err Read) h (h.runs.0, all_on r r' n n' (settled_page s bytes) p h.runs.1) h.cause
-  caused_on a b r r' n n' s bytes (Err TooLong) p h = over a b r r' n n' s bytes (Err TooLong) h (h.runs.0, all_on r r' n n' _ p h.runs.1) h.cause
-  caused_on a b r r' n n' s bytes (Err WriteText) p h =
-      over a b r r' n n' s bytes (Err WriteText) h (h.runs.0, front_on r r' n n' (whole_page s bytes) p h.runs.1) (broken_on r r' n n' s bytes WriteText p h.cause)
-  caused_on a b r r' n n' s bytes (Err WriteNotes) p h =
-      over a b r r' n n' s bytes (Err WriteNotes) h (h.runs.0, front_on r r' n n' (whole_page s bytes) p h.runs.1) (broken_on r r' n n' s bytes WriteNotes p h.cause)
-  caused_on a b r r' n n' s bytes (Err (Settings x)) p h =
-      over a b r r' n n' s bytes (Err (Settings x)) h (h.runs.0, h.runs.1, all_on r r' n n' (nothing (start s)) p h.runs.2) (h.cause.0, ap f h.cause.1, ap g h.cause.2)
+  caused_on a b r r' n n' s bytes (Ok out) p h = record {
+    asked = h.asked;
+    few = h.few;
+    source = h.source;
+    lean = h.lean;
+    runs = whole_on r r' n n' s bytes b.remaining out p h.runs;
+    cause = (h.cause.0, sym (o.rows_failed r') ∙ (h.cause.1 ∙ o.rows_failed r), sym (o.notes_failed n') ∙ (h.cause.2 ∙ o.notes_failed n));
+  }
+  caused_on a b r r' n n' s bytes (Err Memory) p h = record {
+    asked = h.asked;
+    few = h.few;
+    source = h.source;
+    lean = h.lean;
+    runs = (h.runs.0, h.runs.1, all_on r r' n n' (nothing (start s)) p h.runs.2);
+    cause = (h.cause.0, ap f h.cause.1, ap g h.cause.2);
+  }
+  caused_on a b r r' n n' s bytes (Err Read) p h = record {
+    asked = h.asked;
+    few = h.few;
+    source = h.source;
+    lean = h.lean;
+    runs = (h.runs.0, all_on r r' n n' (settled_page s bytes) p h.runs.1);
+    cause = h.cause;
+  }
+  caused_on a b r r' n n' s bytes (Err TooLong) p h = record {
+    asked = h.asked;
+    few = h.few;
+    source = h.source;
+    lean = h.lean;
+    runs = (h.runs.0, all_on r r' n n' _ p h.runs.1);
+    cause = h.cause;
+  }
+  caused_on a b r r' n n' s bytes (Err WriteText) p h = record {
+    asked = h.asked;
+    few = h.few;
+    source = h.source;
+    lean = h.lean;
+    runs = (h.runs.0, front_on r r' n n' (whole_page s bytes) p h.runs.1);
+    cause = broken_on r r' n n' s bytes WriteText p h.cause;
+  }
+  caused_on a b r r' n n' s bytes (Err WriteNotes) p h = record {
+    asked = h.asked;
+    few = h.few;
+    source = h.source;
+    lean = h.lean;
+    runs = (h.runs.0, front_on r r' n n' (whole_page s bytes) p h.runs.1);
+    cause = broken_on r r' n n' s bytes WriteNotes p h.cause;
+  }
+  caused_on a b r r' n n' s bytes (Err (Settings x)) p h = record {
+    asked = h.asked;
+    few = h.few;
+    source = h.source;
+    lean = h.lean;
+    runs = (h.runs.0, h.runs.1, all_on r r' n n' (nothing (start s)) p h.runs.2);
+    cause = (h.cause.0, ap f h.cause.1, ap g h.cause.2);
+  }
   caused_on a b r r' n n' s bytes (Err Failed) p h = absurd h.cause
   caused_on a b r r' n n' s bytes (Err Ended) p h = absurd h.cause
   caused_on a b r r' n n' s bytes (Err (BadIndex x)) p h = absurd h.cause

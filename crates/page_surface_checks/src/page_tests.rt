@@ -104,9 +104,9 @@ fn check_page<P: FedPage + Drop, R: Abort + AllocGlobal>(rt: &R, mut page: P, ca
     check_counts(rt, page.counts(), counts_of(lines));
     let kept = page.kept();
     let mut all = Vec::new(rt.alloc());
-    for part in [&kept.rows.text, &cuts.text, &kept.notes.text] {
-        let _ = all.extend_from_slice(part.as_slice());
-    }
+    let _ = all.extend_from_slice(kept.rows.text.as_slice());
+    let _ = all.extend_from_slice(cuts.text.as_slice());
+    let _ = all.extend_from_slice(kept.notes.text.as_slice());
     check_text(rt, all.as_slice(), shown);
 }
 
