@@ -2,7 +2,6 @@
 use Rattle.std.proofs.Common.{ℕ, zero, suc, ◌+◌, ◌≤◌, Bool, true, false, List, [], ◌∷◌, refl, sym, subst, arith}
 use Rattle.page_roff_blocks.specs.machine.Run.{At}
 use Rattle.page_roff_blocks.specs.machine.Steps.{step, step_lines}
-use Rattle.page_roff_blocks.proofs.FoldLemmas.{run_is_steps}
 use Rattle.page_core_base.specs.declared.limits.TheConstants.{CALLS, REREAD}
 use Rattle.page_roff_blocks.specs.machine.Languages.{page, meaning_at, run_page}
 use Rattle.page_roff_blocks.specs.machine.Budgets.{Budgeted, Effects, with_rest, charge_by, charge, begin_line, language}
@@ -45,7 +44,7 @@ module _ {R : Type 0} (e : Effects R) (n : ℕ) where
   unfolding begin_line Within left_if
   begin_within s h = omega (arith, h)
 
-  pub line_bound : (line : List ℕ) (a : At (Budgeted R)) → Starts a.state → (step (meaning_at (language e) CALLS page) (λ t. t) line a).state.taken ≤ n
+  pub line_bound : (line : List ℕ) (a : At (Budgeted R)) → Starts a.state → (step (meaning_at (language e) CALLS page) line a).state.taken ≤ n
   unfolding Within left_if
   line_bound line a h =
       let m = meaning_at (language e) CALLS page in
@@ -57,12 +56,10 @@ module _ {R : Type 0} (e : Effects R) (n : ℕ) where
       let r =
       step_tied IsAny N B B m m (parts_paid (λ r. 0) 0 e (free e) IsBody Within Within Within k CALLS page)
       (gives_tied IsAny AnyKind N B B (language e) (language e) any_line q CALLS dones page tt)
-      (closes_tied IsAny AnyKind N B B (language e) (language e) any_line q CALLS dones page tt) (λ t. t) (Alike Starts) line
+      (closes_tied IsAny AnyKind N B B (language e) (language e) any_line q CALLS dones page tt) (Alike Starts) line
       (lines_from (λ r. 0) 0 e (free e) IsBody Within Within Within k Starts CALLS page begin_within line) (any_line line tt) a a (refl, (refl, h)) in
       omega (arith, r.1.1)
 
 pub page_line_bound : {R : Type 0} (e : Effects R) (line : List ℕ) (a : At (Budgeted R)) → (run_page (language e) (line ∷ []) a).state.taken ≤ a.state.taken + 1 + REREAD
 unfolding run_page step_lines
-page_line_bound {R} e line a =
-    let n = a.state.taken + 1 + REREAD in
-    subst (λ (b : At (Budgeted R)). b.state.taken ≤ n) (sym (run_is_steps (meaning_at (language e) CALLS page) (λ t. t) (line ∷ []) a)) (line_bound e n line a (omega arith))
+page_line_bound e line a = line_bound e (a.state.taken + 1 + REREAD) line a (omega arith)

@@ -35,7 +35,7 @@ module _ {S : Type 0} (front : S → S) (l : Language S) (f : IsFront front l) w
         opens_loop = λ h s t c r. rw (← r) (sym (k.opens_loop h s));
       }
 
-  line_front : (d : ℕ) (kind : Kind) (line : List ℕ) → IsAny line → TiesLine Front Front Front (meaning_at l d kind) (meaning_at l d kind) line line
+  line_front : (d : ℕ) (kind : Kind) (line : List ℕ) → IsAny line → TiesLine Front Front Front (meaning_at l d kind) (meaning_at l d kind) line
   unfolding meaning_at meaning_by
   line_front d kind line c =
       let k = f.parts kind in
@@ -81,7 +81,7 @@ module _ {S : Type 0} (front : S → S) (l : Language S) (f : IsFront front l) w
   in_front d kind (Some o) g s t r = (refl, r)
 
   lines_front : (d : ℕ) (kind : Kind) (lines : List (List ℕ)) (a b : At S) → BothAt Front a b
-      → BothAt Front (step_lines (meaning_at l d kind) (λ t. t) lines a) (step_lines (meaning_at l d kind) (λ t. t) lines b)
+      → BothAt Front (step_lines (meaning_at l d kind) lines a) (step_lines (meaning_at l d kind) lines b)
   lines_front d kind lines =
       let m = meaning_at l d kind in
       lines_tied IsAny Front Front Front m m (parts_front d kind) (gives_front d kind) (closes_front d kind) any_line (line_front d kind) lines (any_lines lines)

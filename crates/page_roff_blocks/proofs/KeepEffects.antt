@@ -106,7 +106,7 @@ module _ {R : Type 0} (T : List ℕ → Type 0) (K : Kind → Type 0) (P : R →
     opens_loop = λ h s t c r. rw (← r.0) (refl, k.opens_loop h s.rest c r.1);
   }
 
-  lines_tied : (d : ℕ) (kind : Kind) → K kind → (line : List ℕ) → T line → TiesLine Tied Tied Tied (meaning_at (language e) d kind) (meaning_at (language e) d kind) line line
+  lines_tied : (d : ℕ) (kind : Kind) → K kind → (line : List ℕ) → T line → TiesLine Tied Tied Tied (meaning_at (language e) d kind) (meaning_at (language e) d kind) line
   unfolding meaning_at meaning_by language meaning read_line end_line with_rest
   lines_tied d kind a line c = record {
     begins = λ s t r. rw (← r.0) (refl, begin_keeps kind s r.1);

@@ -2,11 +2,12 @@
 use Rattle.std.proofs.Common.{ℕ, zero, suc, Bool, true, false, List, Option, Some, None, refl, subst}
 use Rattle.page_roff_syntax.specs.Regions.{Opened}
 use Rattle.page_roff_blocks.specs.Forest.{first_place, SourcePlace}
-use Rattle.page_roff_blocks.specs.machine.Run.{At, run_lines}
+use Rattle.page_roff_blocks.specs.machine.Run.{At}
+use Rattle.page_roff_blocks.specs.machine.Steps.{step_lines}
 use Rattle.page_core_base.specs.declared.limits.TheConstants.{CALLS}
 use Rattle.page_roff_blocks.specs.machine.Languages.{Kind, page, body, inner, Done, gives, calls, repeats, state_of, TURNS, Language, is_some, run_if, turns, finish_at, run_body, done_by, meaning_by, done_at, meaning_at, run_page}
 use Rattle.page_roff_blocks.proofs.KeepLemmas.{AreSuch, HasLeaves, IsAny, any_lines}
-use Rattle.page_roff_blocks.proofs.TieLemmas.{Alike, Both, BothAt, TiesParts, TiesLine, run_tied}
+use Rattle.page_roff_blocks.proofs.TieLemmas.{Alike, Both, BothAt, TiesParts, TiesLine, lines_tied}
 
 -- States that are tied are given, or the same lines are called or repeated, which are such.
 pub data DoneTied {S Q : Type 0} (T : List ℕ → Type 0) (K : Kind → Type 0) (B : S → Q → Type 0) : Done S → Done Q → Type 0 where
@@ -27,7 +28,7 @@ kept_done P (repeats condition lines s) h = repeat condition lines s s tt (any_l
 pub record TiesLanguages {S Q : Type 0} (T : List ℕ → Type 0) (K : Kind → Type 0) (N F B : S → Q → Type 0) (l : Language S) (o : Language Q) : Type 0 where
   pub inner : (kind : Kind) → K kind → K (inner kind)
   pub parts : (d : ℕ) (kind : Kind) → K kind → TiesParts T N F B (meaning_at l d kind) (meaning_at o d kind)
-  pub lines : (d : ℕ) (args : Option (List (List ℕ))) → K (body args) → (line : List ℕ) → T line → TiesLine B N B (meaning_at l d (body args)) (meaning_at o d (body args)) line line
+  pub lines : (d : ℕ) (args : Option (List (List ℕ))) → K (body args) → (line : List ℕ) → T line → TiesLine B N B (meaning_at l d (body args)) (meaning_at o d (body args)) line
   pub leaf : (may_call : Bool) (kind : Kind) (text : List ℕ) (s : S) (t : Q) → K kind → T text → F s t → DoneTied T K B (l.leaf may_call kind text s) (o.leaf may_call kind text t)
   pub closes : (may_run : Bool) (s : S) (t : Q) → B s t → DoneTied T K B (l.closes may_run s) (o.closes may_run t)
   pub turn : (kind : Kind) (condition : List ℕ) (s : S) (t : Q) → K kind → T condition → B s t → Both B (l.turn kind condition s) (o.turn kind condition t)
@@ -72,19 +73,19 @@ module _ {S Q : Type 0} (T : List ℕ → Type 0) (K : Kind → Type 0) (N F B :
   closes_tied d dones kind a s t h = dones kind a (l.closes (is_some d) s) (o.closes (is_some d) t) (k.closes (is_some d) s t h)
 
   -- lines of a source
-  source_tied : (d : ℕ) → DonesTied d → (kind : Kind) → K kind → ((line : List ℕ) → T line → TiesLine B N B (meaning_at l d kind) (meaning_at o d kind) line line)
+  source_tied : (d : ℕ) → DonesTied d → (kind : Kind) → K kind → ((line : List ℕ) → T line → TiesLine B N B (meaning_at l d kind) (meaning_at o d kind) line)
       → (lines : List (List ℕ)) → AreSuch T lines → (a : At S) (b : At Q) → BothAt B a b
-      → BothAt B (run_lines (meaning_at l d kind) (λ t. t) lines a) (run_lines (meaning_at o d kind) (λ t. t) lines b)
+      → BothAt B (step_lines (meaning_at l d kind) lines a) (step_lines (meaning_at o d kind) lines b)
   source_tied d dones kind a i lines c =
-      run_tied T N F B (meaning_at l d kind) (meaning_at o d kind) (k.parts d kind a) (gives_tied d dones kind a) (closes_tied d dones kind a) leaves i lines c
+      lines_tied T N F B (meaning_at l d kind) (meaning_at o d kind) (k.parts d kind a) (gives_tied d dones kind a) (closes_tied d dones kind a) leaves i lines c
 
-  body_by : (d : ℕ) → DonesTied d → (kind : Kind) → K kind → ((line : List ℕ) → T line → TiesLine B N B (meaning_at l d kind) (meaning_at o d kind) line line)
+  body_by : (d : ℕ) → DonesTied d → (kind : Kind) → K kind → ((line : List ℕ) → T line → TiesLine B N B (meaning_at l d kind) (meaning_at o d kind) line)
       → (lines : List (List ℕ)) → AreSuch T lines → (s : S) (t : Q) → B s t → B (run_body l (meaning_at l d kind) lines s) (run_body o (meaning_at o d kind) lines t)
   unfolding run_body
   body_by d dones kind a i lines c s t h =
       let from : At S = record { place = first_place; state = s } in
       let also : At Q = record { place = first_place; state = t } in
-      finish_tied (run_lines (meaning_at l d kind) (λ t. t) lines from) (run_lines (meaning_at o d kind) (λ t. t) lines also) (source_tied d dones kind a i lines c from also (refl, h))
+      finish_tied (step_lines (meaning_at l d kind) lines from) (step_lines (meaning_at o d kind) lines also) (source_tied d dones kind a i lines c from also (refl, h))
 
   loop_by : (d : ℕ) → DonesTied d → (args : Option (List (List ℕ))) → K (body args) → (condition : List ℕ) → T condition → (lines : List (List ℕ)) → AreSuch T lines → (s : S) (t : Q) → B s t
       → B (turns l TURNS (run_body l (meaning_at l d (body args)) lines) (body args) condition s) (turns o TURNS (run_body o (meaning_at o d (body args)) lines) (body args) condition t)
@@ -101,11 +102,11 @@ module _ {S Q : Type 0} (T : List ℕ → Type 0) (K : Kind → Type 0) (N F B :
   dones_tied (suc d) page a _ _ (repeat condition lines s t c b h) = loop_by d (dones_tied d) None (k.inner page a) condition c lines b s t h
   dones_tied (suc d) (body args) a _ _ (repeat condition lines s t c b h) = loop_by d (dones_tied d) args (k.inner (body args) a) condition c lines b s t h
 
-  pub body_tied : (d : ℕ) (kind : Kind) → K kind → ((line : List ℕ) → T line → TiesLine B N B (meaning_at l d kind) (meaning_at o d kind) line line)
+  pub body_tied : (d : ℕ) (kind : Kind) → K kind → ((line : List ℕ) → T line → TiesLine B N B (meaning_at l d kind) (meaning_at o d kind) line)
       → (lines : List (List ℕ)) → AreSuch T lines → (s : S) (t : Q) → B s t → B (run_body l (meaning_at l d kind) lines s) (run_body o (meaning_at o d kind) lines t)
   body_tied d = body_by d (dones_tied d)
 
-  pub page_tied : K page → ((line : List ℕ) → T line → TiesLine B N B (meaning_at l CALLS page) (meaning_at o CALLS page) line line)
+  pub page_tied : K page → ((line : List ℕ) → T line → TiesLine B N B (meaning_at l CALLS page) (meaning_at o CALLS page) line)
       → (lines : List (List ℕ)) → AreSuch T lines → (a : At S) (b : At Q) → BothAt B a b → BothAt B (run_page l lines a) (run_page o lines b)
   unfolding run_page
   page_tied a i lines c = source_tied CALLS (dones_tied CALLS) page a i lines c

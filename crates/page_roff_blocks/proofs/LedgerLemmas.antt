@@ -136,7 +136,7 @@ module _ {R : Type 0} (spent : R → ℕ) (most : ℕ) (e : Effects R) (p : Spen
 
   -- lines of such a kind, of which something is known where they begin
   pub lines_from : (A : Budgeted R → Type 0) (d : ℕ) (kind : Kind) → ((s : Budgeted R) → A s → Fresh F B (begin_line e kind s)) → (line : List ℕ)
-      → TiesLine (Alike A) (Alike (Fresh F B)) (Alike B) (meaning_at (language e) d kind) (meaning_at (language e) d kind) line line
+      → TiesLine (Alike A) (Alike (Fresh F B)) (Alike B) (meaning_at (language e) d kind) (meaning_at (language e) d kind) line
   unfolding meaning_at meaning_by language meaning read_line end_line
   lines_from A d kind begins line = record {
     begins = λ s t r. rw (← r.0) (refl, begins s r.1);

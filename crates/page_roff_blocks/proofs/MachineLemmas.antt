@@ -8,12 +8,11 @@ use Rattle.page_roff_blocks.specs.declared.levels.Ended.TheVariants as endings
 use Rattle.page_roff_syntax.specs.Regions.{is_ending, Opened}
 use Rattle.page_roff_blocks.specs.laws.Views.{BlockCursor, at_line, after_part, leave, what_ends}
 use Rattle.page_roff_blocks.specs.Forest.{first_place}
-use Rattle.page_roff_blocks.specs.machine.Run.{Meaning, At, end_by, headed}
+use Rattle.page_roff_blocks.specs.machine.Run.{Meaning, At, end_by}
 use Rattle.page_roff_blocks.specs.machine.Run as blocks
 use Rattle.page_roff_blocks.specs.machine.Steps.{met, step_leaf, step_loop, step_end, step_region, step_parts, step_inside, step_from, step, step_lines}
-use Rattle.page_roff_blocks.proofs.FoldLemmas.{run_is_steps, run_lines-append}
 use Rattle.page_core_base.specs.declared.limits.TheConstants.{CALLS}
-use Rattle.page_roff_blocks.specs.machine.Languages.{Kind, page, body, inner, Done, gives, calls, repeats, TURNS, Language, is_some, run_if, finish_at, run_body, turns, done_by, meaning_by, done_at, meaning_at, run_page, run_page_lines}
+use Rattle.page_roff_blocks.specs.machine.Languages.{Kind, page, body, inner, Done, gives, calls, repeats, TURNS, Language, is_some, run_if, finish_at, run_body, turns, done_by, meaning_by, done_at, meaning_at, run_page}
 use Rattle.page_roff_blocks.specs.machine.Machine.{Turning, Frame, Running, entered, looped, turned, at_part, between, at_page, depth, stands_at, line_in, line_rest, finish_if, ended, after_line, rest, rest_of, leaf_next, leaf_if, loop_next, loop_if, end_next, part_next, region_next, line_next, turn_if, turn_next, body_next, source_next, next_in, next}
 
 module _ {S : Type 0} (l : Language S) where
@@ -25,7 +24,7 @@ module _ {S : Type 0} (l : Language S) where
   one_less n k d e = omega arith
 
   module _ (under : List Frame) (kind : Kind) (more : List (LinePart (List ℕ))) (cursor : BlockCursor) (lines : List (List ℕ)) (turning : Option Turning) where
-    abbrev pub m : Meaning (List ℕ) S
+    abbrev pub m : Meaning S
     m = meaning_at l (depth under) kind
 
     abbrev pub f : Frame
@@ -46,8 +45,8 @@ module _ {S : Type 0} (l : Language S) where
         let a : At S = record { place = first_place; state = s } in
         let k = body (Some args) in
         let fewer : d ≡ CALLS - suc (length under) = sym (one_less CALLS (length under) d e) in
-        ap (λ a. after_line l kind turning lines under (step_parts (meaning_at l (CALLS - length under) kind) more cursor (finish_at l a)))
-        (run_is_steps (meaning_at l d k) (λ t. t) ls a ∙ ap (λ d. step_lines (meaning_at l d k) (λ t. t) ls a) fewer)
+        ap (λ d. after_line l kind turning lines under (step_parts (meaning_at l (CALLS - length under) kind) more cursor
+        (finish_at l (step_lines (meaning_at l d k) ls a)))) fewer
     done_law (suc d) (repeats condition ls s) e =
         let k = inner kind in
         let fewer : d ≡ CALLS - suc (length under) = sym (one_less CALLS (length under) d e) in
@@ -92,7 +91,7 @@ module _ {S : Type 0} (l : Language S) where
   part_law (Region head) under kind more cursor lines turning s = refl
 
   after_cons : (kind : Kind) (turning : Option Turning) (line : List ℕ) (more : List (List ℕ)) (under : List Frame) (a : At S)
-      → after_line l kind turning (line ∷ more) under a ≡ after_line l kind turning more under (step (meaning_at l (depth under) kind) (λ t. t) line a)
+      → after_line l kind turning (line ∷ more) under a ≡ after_line l kind turning more under (step (meaning_at l (depth under) kind) line a)
   unfolding after_line step_lines
   after_cons kind turning line more [] a = refl
   after_cons kind turning line more (g ∷ gs) a = refl
@@ -125,22 +124,12 @@ module _ {S : Type 0} (l : Language S) where
   same_rest g gs s = refl
 
   -- a turn begins with all lines of the body
-  begun_law : (left : ℕ) (kind : Kind) (t : Turning) (g : Frame) (gs : List Frame) (s : S)
-      → rest l g gs (turns l left (run_body l (meaning_at l (depth (g ∷ gs)) kind) t.lines) kind t.condition (run_body l (meaning_at l (depth (g ∷ gs)) kind) t.lines s))
-      ≡ rest_of l (record { top = turned kind t left; under = g ∷ gs; state = s })
-  unfolding rest_of rest after_line ended finish_if line_rest line_in turned step_parts at_line first_place run_body
-  begun_law left kind t g gs s =
-      let m = meaning_at l (depth (g ∷ gs)) kind in
-      let a : At S = record { place = first_place; state = s } in
-      ap (λ a. after_line l g.kind g.turning g.lines gs (line_in l (meaning_at l (depth gs) g.kind) g.region g (turns l left (run_body l m t.lines) kind t.condition (finish_at l a))))
-      (run_is_steps m (λ t. t) t.lines a)
-
   runs_law : (runs : Bool) (left : ℕ) (kind : Kind) (t : Turning) (g : Frame) (gs : List Frame) (s : S)
       → let run = run_body l (meaning_at l (depth (g ∷ gs)) kind) t.lines in
       rest l g gs (run_if runs (λ s. turns l left run kind t.condition (run s)) s) ≡ rest_of l (turn_if l runs kind t left g gs s)
-  unfolding run_if turn_if
-  runs_law true left kind t g gs s = begun_law left kind t g gs s
-  runs_law false left kind t g gs s = same_rest g gs s
+  unfolding run_if turn_if rest_of rest after_line ended finish_if line_rest line_in turned step_parts at_line first_place run_body
+  runs_law true left kind t g gs s = refl
+  runs_law false left kind t g gs s = refl
 
   turn_law : (left : ℕ) (kind : Kind) (t : Turning) (g : Frame) (gs : List Frame) (s : S)
       → rest l g gs (turns l left (run_body l (meaning_at l (depth (g ∷ gs)) kind) t.lines) kind t.condition s) ≡ rest_of l (turn_next l left kind t g gs s)
@@ -191,16 +180,7 @@ module _ {S : Type 0} (l : Language S) where
   unfolding come
   end_law r e = next_come r ∙ ap (come (stands_at r)) e
 
-  pub run_page-append : (above below : List (List ℕ)) (a : At S) → run_page l (above ++ below) a ≡ run_page l below (run_page l above a)
-  unfolding run_page
-  run_page-append above below a = run_lines-append (meaning_at l CALLS page) (λ t. t) above below a
-
-  pub run_page_lines-append : {X : Type 0} (text : X → List ℕ) (head : X → S → S) (above below : List X) (a : At S)
-      → run_page_lines l text head (above ++ below) a ≡ run_page_lines l text head below (run_page_lines l text head above a)
-  unfolding run_page_lines
-  run_page_lines-append text head above below a = run_lines-append (headed text head (meaning_at l CALLS page)) text above below a
-
-  first_law : (region : Option Opened) (m : Meaning (List ℕ) S) (f : Frame) (s : S)
+  first_law : (region : Option Opened) (m : Meaning S) (f : Frame) (s : S)
       → f.parts ≡ [] → line_in l m region f s ≡ record { place = record { region = region; levels = f.cursor.levels }; state = s }
   unfolding line_in step_parts
   first_law None m f s e = rw e refl
@@ -211,4 +191,4 @@ module _ {S : Type 0} (l : Language S) where
   page_law line a =
       let m = meaning_at l CALLS page in
       let f = (at_page line a).top in
-      ap (step_lines m (λ t. t) (line ∷ [])) (first_law a.place.region m f a.state refl) ∙ sym (run_is_steps m (λ t. t) (line ∷ []) a)
+      ap (step_lines m (line ∷ [])) (first_law a.place.region m f a.state refl)

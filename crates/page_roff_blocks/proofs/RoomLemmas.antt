@@ -47,7 +47,7 @@ leave_room bit [] false zero = omega arith
 leave_room bit (b ∷ bs) false zero = omega arith
 leave_room bit outer in_loop (suc n) = omega arith
 
-module _ {X S : Type 0} (m : Meaning X S) where
+module _ {S : Type 0} (m : Meaning S) where
   guard_room : (is_met : Bool) (h : Head (List ℕ)) (cursor : BlockCursor) (s : S) → (guard_met m is_met h cursor s).0.levels.skipped ≡ cursor.levels.skipped
   unfolding guard_met guard_with guarded_by
   guard_room true h cursor s = refl

@@ -29,7 +29,7 @@ done_base B G begun (repeats condition lines s) h = h
 -- `N` holds where a line began, `F` where a part is run, `G` where a body begins and `B` at all other times; lines come in sources of such kinds.
 pub record Pays {S : Type 0} (K : Kind → Type 0) (N F B G : S → Type 0) (l : Language S) : Type 0 where
   pub parts : (d : ℕ) (kind : Kind) → TiesParts IsAny (Alike N) (Alike F) (Alike B) (meaning_at l d kind) (meaning_at l d kind)
-  pub lines : (d : ℕ) (kind : Kind) → K kind → (line : List ℕ) → TiesLine (Alike B) (Alike N) (Alike B) (meaning_at l d kind) (meaning_at l d kind) line line
+  pub lines : (d : ℕ) (kind : Kind) → K kind → (line : List ℕ) → TiesLine (Alike B) (Alike N) (Alike B) (meaning_at l d kind) (meaning_at l d kind) line
   pub body : (s : S) → G s → B s
   pub leaf : (may_run : Bool) (kind : Kind) (text : List ℕ) (s : S) → F s → PaidDone B G (l.leaf may_run kind text s)
   pub closes : (may_run : Bool) (s : S) → B s → PaidDone B G (l.closes may_run s)
@@ -70,7 +70,7 @@ pub record Rules {S : Type 0} (K : Kind → Type 0) (N B G : S → Type 0) (r : 
       → Q (record { top = turned r.top.kind t left; under = g ∷ gs; state = s })
 
 module _ {S : Type 0} (K : Kind → Type 0) (N F B G : S → Type 0) (l : Language S) (p : Pays K N F B G l) (r : Running S) (Q : Running S → Type 0) (q : Rules K N B G r Q) where
-  abbrev pub m : Meaning (List ℕ) S
+  abbrev pub m : Meaning S
   m = meaning_at l (depth r.under) r.top.kind
 
   abbrev pub parts : TiesParts IsAny (Alike N) (Alike F) (Alike B) (meaning_at l (depth r.under) r.top.kind) (meaning_at l (depth r.under) r.top.kind)
@@ -145,13 +145,13 @@ module _ {S : Type 0} (K : Kind → Type 0) (N F B G : S → Type 0) (l : Langua
   -- ---- lines
 
   module _ (line : List ℕ) (more : List (List ℕ)) (is : r.top.lines ≡ line ∷ more) where
-    abbrev pub ties : TiesLine (Alike B) (Alike N) (Alike B) (meaning_at l (depth r.under) r.top.kind) (meaning_at l (depth r.under) r.top.kind) line line
+    abbrev pub ties : TiesLine (Alike B) (Alike N) (Alike B) (meaning_at l (depth r.under) r.top.kind) (meaning_at l (depth r.under) r.top.kind) line
     ties = p.lines (depth r.under) r.top.kind (q.kind line more is) line
 
     keep_rule : (region : Option Opened) (s : S) → Alike B s s → Q (record { top = between r.top region more; under = r.under; state = keep_if m r.top.cursor.levels.in_loop line s })
     keep_rule region s h =
         q.inside line more is region (keep_if m r.top.cursor.levels.in_loop line s)
-        (keep_tied IsAny (Alike N) (Alike F) (Alike B) m m parts (Alike B) line line ties r.top.cursor.levels.in_loop s s h).1
+        (keep_tied IsAny (Alike N) (Alike F) (Alike B) m m parts (Alike B) line ties r.top.cursor.levels.in_loop s s h).1
 
     region_rule : (is_end : Bool) (o : Opened) → Q (region_next l m is_end o line more r.top r.under r.state)
     unfolding region_next
@@ -162,7 +162,7 @@ module _ {S : Type 0} (K : Kind → Type 0) (N F B G : S → Type 0) (l : Langua
     unfolding line_next
     line_rule none =
         q.line line more none is (begin_line m line r.top.cursor.levels r.state)
-        (begin_tied IsAny (Alike N) (Alike F) (Alike B) m m parts (Alike B) line line ties r.top.cursor.levels r.state r.state (refl, q.base)).1
+        (begin_tied IsAny (Alike N) (Alike F) (Alike B) m m parts (Alike B) line ties r.top.cursor.levels r.state r.state (refl, q.base)).1
 
   -- ---- ends of sources
 

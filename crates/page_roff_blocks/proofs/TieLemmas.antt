@@ -18,9 +18,8 @@ use Rattle.page_roff_blocks.specs.Parts.{line_parts}
 use Rattle.page_roff_syntax.specs.Regions.{is_ending, Opened}
 use Rattle.page_roff_blocks.specs.Forest.{Levels, SourcePlace}
 use Rattle.page_roff_blocks.specs.laws.Views.{way_of, what_ends, BlockCursor, at_line, after_part, guarded_by, reached, reached_in, reached_from, reached_if}
-use Rattle.page_roff_blocks.specs.machine.Run.{Meaning, At, meet_as, value, leaf_if, loop_if, refuse_if, keep_if, end_by, open_region, run_lines}
+use Rattle.page_roff_blocks.specs.machine.Run.{Meaning, At, meet_as, value, leaf_if, loop_if, refuse_if, keep_if, end_by, open_region}
 use Rattle.page_roff_blocks.specs.machine.Steps.{met, step_leaf, guard_with, guard_met, step_guard, block_with, opening_met, block_met, step_block, step_loop, step_end, step_region, step_parts, step_inside, collect_if, begin_line, step_from, step, step_lines}
-use Rattle.page_roff_blocks.proofs.FoldLemmas.{run_is_steps}
 use Rattle.page_roff_blocks.proofs.KeepLemmas.{IsLoopHead, IsOpening, AreLeaves, AreSuch, HasLeaves}
 
 -- two states are the same, and such
@@ -61,7 +60,7 @@ same_at {S} a b h =
     ap (λ (s : S). record { place = a.place; state = s }) h.1 ∙ ap (λ (place : SourcePlace). record { place = place; state = b.state }) h.0
 
 -- Of lines whose leaves are such: `N` ties states where a line began, `F` where a part is run, and `B` after it.
-pub record TiesParts {X S Q : Type 0} (T : List ℕ → Type 0) (N F B : S → Q → Type 0) (m : Meaning X S) (n : Meaning (List ℕ) Q) : Type 0 where
+pub record TiesParts {S Q : Type 0} (T : List ℕ → Type 0) (N F B : S → Q → Type 0) (m : Meaning S) (n : Meaning Q) : Type 0 where
   pub base : (begun : Bool) (s : S) (t : Q) → Ties B N begun s t → B s t
   pub full : (s : S) (t : Q) → F s t → B s t
   pub meets : (is_remainder : Bool) (s : S) (t : Q) → Ties B N is_remainder s t → Met F B (m.meets is_remainder s) (n.meets is_remainder t)
@@ -72,14 +71,14 @@ pub record TiesParts {X S Q : Type 0} (T : List ℕ → Type 0) (N F B : S → Q
   pub opens_loop : (head : LoopHead (List ℕ)) (s : S) (t : Q) → IsLoopHead T head → B s t → B (m.opens_loop head s) (n.opens_loop head t)
 
 -- of a line that begins where states are tied by `A`
-pub record TiesLine {X S Q : Type 0} (A N B : S → Q → Type 0) (m : Meaning X S) (n : Meaning (List ℕ) Q) (x : X) (line : List ℕ) : Type 0 where
-  pub begins : (s : S) (t : Q) → A s t → N (m.begins x s) (n.begins line t)
-  pub reads : (o : Opened) (s : S) (t : Q) → A s t → B (m.reads o x s) (n.reads o line t)
-  pub ends_region : (o : Opened) (s : S) (t : Q) → A s t → B (m.ends_region o x s) (n.ends_region o line t)
-  pub collects : (open_blocks : ℕ) (s : S) (t : Q) → N s t → N (m.collects open_blocks x s) (n.collects open_blocks line t)
-  pub keeps : (s : S) (t : Q) → B s t → B (m.keeps x s) (n.keeps line t)
+pub record TiesLine {S Q : Type 0} (A N B : S → Q → Type 0) (m : Meaning S) (n : Meaning Q) (line : List ℕ) : Type 0 where
+  pub begins : (s : S) (t : Q) → A s t → N (m.begins line s) (n.begins line t)
+  pub reads : (o : Opened) (s : S) (t : Q) → A s t → B (m.reads o line s) (n.reads o line t)
+  pub ends_region : (o : Opened) (s : S) (t : Q) → A s t → B (m.ends_region o line s) (n.ends_region o line t)
+  pub collects : (open_blocks : ℕ) (s : S) (t : Q) → N s t → N (m.collects open_blocks line s) (n.collects open_blocks line t)
+  pub keeps : (s : S) (t : Q) → B s t → B (m.keeps line s) (n.keeps line t)
 
-module _ {X S Q : Type 0} (T : List ℕ → Type 0) (N F B : S → Q → Type 0) (m : Meaning X S) (n : Meaning (List ℕ) Q) (k : TiesParts T N F B m n) where
+module _ {S Q : Type 0} (T : List ℕ → Type 0) (N F B : S → Q → Type 0) (m : Meaning S) (n : Meaning Q) (k : TiesParts T N F B m n) where
   pub ready_tied : (is_met : Bool) (s : S) (t : Q) → Ties F B is_met s t → B s t
   ready_tied true s t h = k.full s t h
   ready_tied false s t h = h
@@ -147,30 +146,29 @@ module _ {X S Q : Type 0} (T : List ℕ → Type 0) (N F B : S → Q → Type 0)
 
   pub opens_tied : (head : RegionHead (List ℕ)) (l : Levels) (is_met : Bool) (s : S) (t : Q) → Ties F B is_met s t
       → BothAt B (open_region m head l (is_met, s)) (open_region n head l (is_met, t))
-  unfolding open_region
   opens_tied head l is_met s t r = (refl, k.opens_region head is_met s t (ready_tied is_met s t r))
 
   -- ---- a line
 
-  module _ (A : S → Q → Type 0) (x : X) (line : List ℕ) (i : TiesLine A N B m n x line) where
-    pub keep_tied : (in_loop : Bool) (s : S) (t : Q) → B s t → B (keep_if m in_loop x s) (keep_if n in_loop line t)
+  module _ (A : S → Q → Type 0) (line : List ℕ) (i : TiesLine A N B m n line) where
+    pub keep_tied : (in_loop : Bool) (s : S) (t : Q) → B s t → B (keep_if m in_loop line s) (keep_if n in_loop line t)
     unfolding keep_if
     keep_tied true s t h = i.keeps s t h
     keep_tied false s t h = h
 
-    collect_tied : (in_loop : Bool) (open_blocks : ℕ) (s : S) (t : Q) → N s t → N (collect_if m in_loop open_blocks x s) (collect_if n in_loop open_blocks line t)
+    collect_tied : (in_loop : Bool) (open_blocks : ℕ) (s : S) (t : Q) → N s t → N (collect_if m in_loop open_blocks line s) (collect_if n in_loop open_blocks line t)
     unfolding collect_if
     collect_tied true open_blocks s t h = i.collects open_blocks s t h
     collect_tied false open_blocks s t h = h
 
-    pub begin_tied : (l : Levels) (s : S) (t : Q) → A s t → N (begin_line m x l s) (begin_line n line l t)
+    pub begin_tied : (l : Levels) (s : S) (t : Q) → A s t → N (begin_line m line l s) (begin_line n line l t)
     unfolding begin_line
-    begin_tied l s t h = collect_tied l.in_loop l.skipped (m.begins x s) (n.begins line t) (i.begins s t h)
+    begin_tied l s t h = collect_tied l.in_loop l.skipped (m.begins line s) (n.begins line t) (i.begins s t h)
 
-    inside_tied : (is_end : Bool) (o : Opened) (l : Levels) (s : S) (t : Q) → A s t → BothAt B (step_inside m is_end o x l s) (step_inside n is_end o line l t)
+    inside_tied : (is_end : Bool) (o : Opened) (l : Levels) (s : S) (t : Q) → A s t → BothAt B (step_inside m is_end o line l s) (step_inside n is_end o line l t)
     unfolding step_inside
-    inside_tied true o l s t h = (refl, keep_tied l.in_loop (m.ends_region o x s) (n.ends_region o line t) (i.ends_region o s t h))
-    inside_tied false o l s t h = (refl, keep_tied l.in_loop (m.reads o x s) (n.reads o line t) (i.reads o s t h))
+    inside_tied true o l s t h = (refl, keep_tied l.in_loop (m.ends_region o line s) (n.ends_region o line t) (i.ends_region o s t h))
+    inside_tied false o l s t h = (refl, keep_tied l.in_loop (m.reads o line s) (n.reads o line t) (i.reads o s t h))
 
   -- ---- the parts of a line
 
@@ -199,7 +197,7 @@ module _ {X S Q : Type 0} (T : List ℕ → Type 0) (N F B : S → Q → Type 0)
 
     pub parts_tied : (parts : List (LinePart (List ℕ))) → AreLeaves T parts → (cursor : BlockCursor) (s : S) (t : Q) → Ties B N cursor.begun s t
         → BothAt B (step_parts m parts cursor s) (step_parts n parts cursor t)
-    unfolding step_parts step_leaf step_guard step_block step_loop step_end step_region after_part open_region
+    unfolding step_parts step_leaf step_guard step_block step_loop step_end step_region after_part
     parts_tied [] a cursor s t h = (refl, k.base cursor.begun s t h)
     parts_tied (Leaf text ∷ rest) a cursor s t h =
         then_tied rest (parts_tied rest a.1) (step_leaf m text cursor s) (step_leaf n text cursor t)
@@ -219,31 +217,26 @@ module _ {X S Q : Type 0} (T : List ℕ → Type 0) (N F B : S → Q → Type 0)
     parts_tied (Region head ∷ rest) a cursor s t h =
         after_met (BothAt B) (λ is_met s. open_region m head cursor.levels (is_met, s)) (λ is_met t. open_region n head cursor.levels (is_met, t)) (opens_tied head cursor.levels) cursor s t h
 
-    pub from_tied : (text : X → List ℕ) (A : S → Q → Type 0) (x : X) → TiesLine A N B m n x (text x) → AreLeaves T (line_parts (text x))
-        → (o : Option Opened) (l : Levels) (s : S) (t : Q) → A s t → BothAt B (step_from m text o x l s) (step_from n (λ t. t) o (text x) l t)
-    unfolding step_from at_line
-    from_tied text A x i a None l s t h =
-        parts_tied (line_parts (text x)) a (at_line l) (begin_line m x l s) (begin_line n (text x) l t) (begin_tied A x (text x) i l s t h)
-    from_tied text A x i a (Some o) l s t h = inside_tied A x (text x) i (is_ending o.ending (text x)) o l s t h
+    module _ (A : S → Q → Type 0) (line : List ℕ) (i : TiesLine A N B m n line) (leaves : AreLeaves T (line_parts line)) where
+      from_tied : (o : Option Opened) (l : Levels) (s : S) (t : Q) → A s t → BothAt B (step_from m o line l s) (step_from n o line l t)
+      unfolding step_from at_line
+      from_tied None l s t h =
+          parts_tied (line_parts line) leaves (at_line l) (begin_line m line l s) (begin_line n line l t) (begin_tied A line i l s t h)
+      from_tied (Some o) l s t h = inside_tied A line i (is_ending o.ending line) o l s t h
 
-    pub step_tied : (text : X → List ℕ) (A : S → Q → Type 0) (x : X) → TiesLine A N B m n x (text x) → AreLeaves T (line_parts (text x))
-        → (a : At S) (b : At Q) → BothAt A a b → BothAt B (step m text x a) (step n (λ t. t) (text x) b)
-    unfolding step
-    step_tied text A x i leaves a b h =
-        subst (λ (place : SourcePlace). BothAt B (step m text x a) (step_from n (λ t. t) place.region (text x) place.levels b.state)) h.0
-        (from_tied text A x i leaves a.place.region a.place.levels a.state b.state h.1)
+      pub step_tied : (a : At S) (b : At Q) → BothAt A a b → BothAt B (step m line a) (step n line b)
+      unfolding step
+      step_tied a b h =
+          subst (λ (place : SourcePlace). BothAt B (step m line a) (step_from n place.region line place.levels b.state)) h.0
+          (from_tied a.place.region a.place.levels a.state b.state h.1)
 
 -- ---- lines
 
-module _ {S Q : Type 0} (T : List ℕ → Type 0) (N F B : S → Q → Type 0) (m : Meaning (List ℕ) S) (n : Meaning (List ℕ) Q) (k : TiesParts T N F B m n)
+module _ {S Q : Type 0} (T : List ℕ → Type 0) (N F B : S → Q → Type 0) (m : Meaning S) (n : Meaning Q) (k : TiesParts T N F B m n)
     (gives : (text : List ℕ) (s : S) (t : Q) → T text → F s t → B (m.gives text s) (n.gives text t)) (closes : (s : S) (t : Q) → B s t → B (m.closes_loop s) (n.closes_loop t))
-    (leaves : HasLeaves T) (i : (line : List ℕ) → T line → TiesLine B N B m n line line) where
-  pub lines_tied : (lines : List (List ℕ)) → AreSuch T lines → (a : At S) (b : At Q) → BothAt B a b → BothAt B (step_lines m (λ t. t) lines a) (step_lines n (λ t. t) lines b)
+    (leaves : HasLeaves T) (i : (line : List ℕ) → T line → TiesLine B N B m n line) where
+  pub lines_tied : (lines : List (List ℕ)) → AreSuch T lines → (a : At S) (b : At Q) → BothAt B a b → BothAt B (step_lines m lines a) (step_lines n lines b)
   unfolding step_lines
   lines_tied [] t a b h = h
   lines_tied (line ∷ lines) t a b h =
-      lines_tied lines t.1 (step m (λ t. t) line a) (step n (λ t. t) line b)
-      (step_tied T N F B m n k gives closes (λ t. t) B line (i line t.0) (leaves line t.0) a b h)
-
-  pub run_tied : (lines : List (List ℕ)) → AreSuch T lines → (a : At S) (b : At Q) → BothAt B a b → BothAt B (run_lines m (λ t. t) lines a) (run_lines n (λ t. t) lines b)
-  run_tied lines t a b h = rw (run_is_steps m (λ t. t) lines a, run_is_steps n (λ t. t) lines b) (lines_tied lines t a b h)
+      lines_tied lines t.1 (step m line a) (step n line b) (step_tied T N F B m n k gives closes B line (i line t.0) (leaves line t.0) a b h)

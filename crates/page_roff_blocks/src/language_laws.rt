@@ -1,11 +1,11 @@
 //! Laws of macros and loops that run.
 
-ghost use Rattle.std.specs.Prelude.{◌≡◌, ◌≤◌, ℕ, suc, ◌+◌, ◌*◌, List, [], ◌∷◌, ◌++◌, length, Option, Some, None};
+ghost use Rattle.std.specs.Prelude.{◌≡◌, ◌≤◌, ℕ, suc, ◌+◌, ◌*◌, List, [], ◌∷◌, length, Option, Some, None};
 ghost use Rattle.page_roff_blocks.specs.machine.Run.{At};
 ghost use Rattle.page_core_base.specs.declared.limits.TheConstants.{CALLS, REREAD};
 ghost use Rattle.page_roff_blocks.specs.machine.Budgets.{Budgeted, Effects, language};
 ghost use Rattle.page_roff_blocks.specs.machine.Fronts.{over, over_running, IsFront};
-ghost use Rattle.page_roff_blocks.specs.machine.Languages.{body, TURNS, Language, run_body, turns, meaning_at, run_page, run_page_lines};
+ghost use Rattle.page_roff_blocks.specs.machine.Languages.{body, TURNS, Language, run_body, turns, meaning_at, run_page};
 ghost use Rattle.page_roff_blocks.specs.machine.Measures.{measure, HasMeasure, HasBodyWithin, IsFirst};
 ghost use Rattle.page_roff_blocks.specs.machine.Spending.{unspent, AreMet, Leads};
 ghost use Rattle.page_roff_blocks.specs.laws.Spent.{Spends};
@@ -17,15 +17,6 @@ pub fn machine_law<S>()
         rest_of l (at_page line at) ≡ run_page l (line ∷ []) at }
     ensures step { (l : Language S) (r q : Running S) → next l r ≡ Some q → rest_of l r ≡ rest_of l q }
     ensures end { (l : Language S) (r : Running S) → next l r ≡ None → rest_of l r ≡ stands_at r }
-{}
-
-/// A page may be cut between any two lines.
-pub fn page_cut_law<X, S>()
-    ensures texts { (l : Language S) (above below : List (List ℕ)) (at : At S)
-        → run_page l (above ++ below) at ≡ run_page l below (run_page l above at) }
-    ensures lines { (l : Language S) (text : X → List ℕ) (head : X → S → S) (above below : List X) (at : At S)
-        → run_page_lines l text head (above ++ below) at
-        ≡ run_page_lines l text head below (run_page_lines l text head above at) }
 {}
 
 /// A source line takes no more than itself and its budget, whatever its macros, loops and remainders do.

@@ -7,11 +7,10 @@
 //!
 //! Proved: `LinePlace` (`next_line_part`, `pass_line_part`, `opens_block`), `loop_text`, `Levels`, `OpenRegion`, `BlockCursor`,
 //! `Standing`: the parts of a raw line, what of it belongs to a loop, and the open and skipped blocks, the open loop and the open region of a
-//! source. `fold_law`, `cut_law`, `lines_law`, `line_parts_law`, `loop_law`, `room_law`: the forest of a source's raw lines (`specs/Forest.antt`) is what
-//! reading it part by part gives, from every open start, and it may be cut anywhere. `machine_law`, `page_cut_law`, `budget_law`, `spending_law`,
+//! source. `line_parts_law`, `loop_law`, `room_law`: the parts of a line, and of what is left of it. `machine_law`, `budget_law`, `spending_law`,
 //! `each_line_law`, `calls_law`, `measure_law`, `turns_law`, `front_law`: how lines run, with calls of macros and with loops
-//! (`specs/machine/Languages.antt`, `Budgets.antt`), over any meaning of their parts: a stack of sources gives the same, it ends, a page may be cut between
-//! any two lines, and the lines taken and the macros and loops that run stay within their budgets. `Budget`: the re-read lines of a source line are
+//! (`specs/machine/Languages.antt`, `Budgets.antt`), over any meaning of their parts: a stack of sources gives the same, it ends, and the lines
+//! taken and the macros and loops that run stay within their budgets. `Budget`: the re-read lines of a source line are
 //! counted by `specs/machine/Counting.antt`.
 #![tactic(auto)]
 
@@ -29,10 +28,10 @@ mod standings;
 pub use block_cursors::{BlockCursor, Pass, Reached};
 pub use budgets::Budget;
 pub use language_laws::{
-    budget_law, calls_law, each_line_law, front_law, machine_law, measure_law, page_cut_law,
-    spending_law, turns_law,
+    budget_law, calls_law, each_line_law, front_law, machine_law, measure_law, spending_law,
+    turns_law,
 };
-pub use laws::{cut_law, fold_law, line_parts_law, lines_law, loop_law, room_law};
+pub use laws::{line_parts_law, loop_law, room_law};
 pub use levels::{Answer, Ended, Levels, Way};
 pub use line_parts::{Branch, Head, LinePart, Opening};
 pub use line_places::LinePlace;

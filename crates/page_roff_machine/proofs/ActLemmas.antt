@@ -58,10 +58,10 @@ use Rattle.page_roff_machine.proofs.FrameLemmas.{same_source}
 -- ---- the meaning of parts, however many macros may run
 
 module _ (output : Output) (d : ℕ) (kind : Kind) where
-  m : Meaning (List ℕ) (Budgeted State)
+  m : Meaning (Budgeted State)
   m = meaning_at (language (acting_effects output)) d kind
 
-  p : Meaning (List ℕ) (Budgeted State)
+  p : Meaning (Budgeted State)
   p = meaning (acting_effects output) kind
 
   met_same : (r : Reached) (s : Budgeted State) → meet_as m r s ≡ meet_as p r s

@@ -68,7 +68,7 @@ outcome_end m e = end_law (language_of m) (running_of [] m) e
 
 -- ---- where nothing is left
 
-none_next : {S : Type 0} (l : Language S) (m : Meaning (List ℕ) S) (x : Next (List ℕ) Opened) (parts : List (LinePart (List ℕ))) (lines : List (List ℕ)) (f : Frame) (under : List Frame) (s : S)
+none_next : {S : Type 0} (l : Language S) (m : Meaning S) (x : Next (List ℕ) Opened) (parts : List (LinePart (List ℕ))) (lines : List (List ℕ)) (f : Frame) (under : List Frame) (s : S)
     → is_nothing x ≡ true → step_in l m x parts lines f under s ≡ None
 unfolding step_in
 none_next l m things.Nothing parts lines f under s e = refl

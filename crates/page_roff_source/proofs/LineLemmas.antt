@@ -2,11 +2,9 @@
 use Rattle.std.proofs.Common.{◌≡◌, ℕ, ◌+◌, Bool, true, false, cond, List, [], ◌∷◌, ◌++◌, length, map, Option, Some, None, option_map, refl, sym, ap, ◌∙◌, append_assoc, append-nil, subst, arith}
 use Rattle.page_roff_syntax.specs.Regions.{is_ending, Opened}
 use Rattle.page_roff_blocks.specs.Forest.{Levels, SourcePlace}
-use Rattle.page_roff_blocks.specs.machine.Run.{Meaning, At, after_head, each_line}
+use Rattle.page_roff_blocks.specs.machine.Run.{Meaning, At}
 use Rattle.page_roff_blocks.specs.machine.Steps as steps
-use Rattle.page_roff_blocks.specs.machine.Steps.{step_inside, step_from, step, step_lines}
-use Rattle.page_roff_blocks.proofs.FoldLemmas.{run_is_steps}
-use Rattle.page_roff_blocks.proofs.HeadLemmas.{forest_is_each}
+use Rattle.page_roff_blocks.specs.machine.Steps.{step_inside, step_from, step, step_lines, after_head, each_line}
 use Rattle.page_core_base.specs.declared.limits.TheConstants.{CALLS, REREAD}
 use Rattle.page_roff_values.specs.Values.{units_of}
 use Rattle.page_roff_blocks.specs.machine.Budgets.{Budgeted, Effects, language, meaning, begin_line, read_line, end_line}
@@ -33,7 +31,7 @@ module _ {R : Type 0} (e : Effects R) where
   abbrev with_budget : ℕ → Bool → ℕ → R → Budgeted R
   with_budget left gave_up taken r = record { left = left; gave_up = gave_up; taken = taken; rest = r }
 
-  abbrev page_meaning : Meaning (List ℕ) (Budgeted R)
+  abbrev page_meaning : Meaning (Budgeted R)
   page_meaning = meaning_at (language e) CALLS page
 
   inside_reset : (is_end : Bool) (o : Opened) (t : List ℕ) (l : Levels) (left left' : ℕ) (g g' : Bool) (taken : ℕ) (r : R)
@@ -43,7 +41,7 @@ module _ {R : Type 0} (e : Effects R) where
   inside_reset false o t l left left' g g' taken r = refl
 
   from_reset : (o : Option Opened) (t : List ℕ) (l : Levels) (left left' : ℕ) (g g' : Bool) (taken : ℕ) (r : R)
-      → step_from page_meaning (λ t. t) o t l (with_budget left g taken r) ≡ step_from page_meaning (λ t. t) o t l (with_budget left' g' taken r)
+      → step_from page_meaning o t l (with_budget left g taken r) ≡ step_from page_meaning o t l (with_budget left' g' taken r)
   unfolding step_from steps.begin_line meaning_by meaning_at language meaning begin_line
   from_reset None t l left left' g g' taken r = refl
   from_reset (Some o) t l left left' g g' taken r = inside_reset (is_ending o.ending t) o t l left left' g g' taken r
@@ -52,10 +50,7 @@ module _ {R : Type 0} (e : Effects R) where
       → run_page (language e) (t ∷ []) (record { place = place; state = with_budget left g taken r })
       ≡ run_page (language e) (t ∷ []) (record { place = place; state = with_budget left' g' taken r })
   unfolding run_page step_lines step
-  budget_reset t place left left' g g' taken r =
-      run_is_steps page_meaning (λ t. t) (t ∷ []) (record { place = place; state = with_budget left g taken r })
-      ∙ from_reset place.region t place.levels left left' g g' taken r
-      ∙ sym (run_is_steps page_meaning (λ t. t) (t ∷ []) (record { place = place; state = with_budget left' g' taken r }))
+  budget_reset t place left left' g g' taken r = from_reset place.region t place.levels left left' g g' taken r
 
 -- what was given before stays in front
 front_run : (units : List ℕ → ℕ) (before : List Given) (t : List ℕ) (a : At (Budgeted State))
@@ -72,7 +67,7 @@ at place left gave_up taken memory out =
 
 -- one line with what comes before it
 one_line : (e : RoffEdge) (x : SourceLine) (left : ℕ) (g : Bool) (out : List Given)
-    → run_page (language (effects (units_of e.output))) (x.text ∷ []) (after_head head_of x (at e.place left g e.taken e.memory out))
+    → run_page (language (effects (units_of e.output))) (x.text ∷ []) (after_head (meaning_at (language (effects (units_of e.output))) CALLS page) (λ line. line.text) head_of x (at e.place left g e.taken e.memory out))
     ≡ over (in_front (out ++ map says x.notes)) (run_line e x)
 unfolding run_line before_line
 one_line e x left g out =
@@ -84,7 +79,7 @@ one_line e x left g out =
     ∙ front_run (units_of e.output) front x.text (at e.place REREAD false e.taken m [])
 
 abbrev each : RoffEdge → List SourceLine → At (Budgeted State) → At (Budgeted State)
-each e lines a = each_line (λ line. line.text) head_of (meaning_at (language (effects (units_of e.output))) CALLS page) lines a
+each e lines a = each_line (meaning_at (language (effects (units_of e.output))) CALLS page) (λ line. line.text) head_of lines a
 
 -- line after line
 each_stands : (e : RoffEdge) (xs : List SourceLine) (left : ℕ) (g : Bool) (out : List Given)
@@ -104,10 +99,7 @@ each_stands e (x ∷ xs) left g out =
 
 all_stands : (e : RoffEdge) (lines : List SourceLine) → StandsAt (lines_done e lines) (lines_given e lines) (machine.run_all e lines)
 unfolding machine.run_all run_page_lines
-all_stands e lines =
-    subst (λ (a : At (Budgeted State)). StandsAt (lines_done e lines) (lines_given e lines) a)
-    (sym (forest_is_each (λ line. line.text) head_of (meaning_at (language (effects (units_of e.output))) CALLS page) lines (machine.before_lines e)))
-    (each_stands e lines 0 false [])
+all_stands e lines = each_stands e lines 0 false []
 
 -- the definitions run as the machine does
 all_same : (e : RoffEdge) (lines : List SourceLine) → run_all e lines ≡ runs.at (machine.run_all e lines)

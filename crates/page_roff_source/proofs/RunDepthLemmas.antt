@@ -1,12 +1,13 @@
 -- What macros and loops do by `Runs` is what they do by the machine's `Languages` and `Budgets`: helpers of proofs.
-use Rattle.std.proofs.Common.{◌≡◌, ℕ, zero, suc, Bool, true, false, not, ◌&&◌, nat_lt, if◌then◌else◌, List, Option, Some, None, refl, ap, ◌∙◌, arith}
+use Rattle.std.proofs.Common.{◌≡◌, ℕ, zero, suc, Bool, true, false, not, ◌&&◌, nat_lt, if◌then◌else◌, List, [], ◌∷◌, Option, Some, None, refl, ap, ◌∙◌, arith}
 use Rattle.std.proofs.lemmas.Bool.Decides.{nat_tests}
 use Rattle.page_core_base.specs.Limits.{CALLS}
 use Rattle.page_roff_heads.specs.Conditions.{condition_of}
 use Rattle.page_roff_blocks.specs.Forest.{first_place}
 use Rattle.page_roff_blocks.specs.Parts.{loop_text}
 use Rattle.page_roff_blocks.specs.machine.Run as old
-use Rattle.page_roff_blocks.specs.machine.Run.{Meaning, headed}
+use Rattle.page_roff_blocks.specs.machine.Run.{Meaning}
+use Rattle.page_roff_blocks.specs.machine.Steps.{step, step_lines, each_line}
 use Rattle.page_roff_blocks.specs.machine.Languages as langs
 use Rattle.page_roff_blocks.specs.machine.Languages.{Kind, page, body, inner, arguments_of, is_some, state_of, Language, TURNS, run_if, finish_at}
 use Rattle.page_roff_blocks.specs.machine.Budgets as budgets
@@ -21,7 +22,7 @@ use Rattle.page_roff_effects.specs.laws.Views as states_laws
 use Rattle.page_roff_source.specs.Runs.{SourceLine, State, after, spend, reread, page_line, Around, At, gather_some, test, run_product, runs_at}
 use Rattle.page_roff_source.specs.machine.Given.{head_of}
 use Rattle.page_roff_source.specs.Runs as runs
-use Rattle.page_roff_source.proofs.RunLemmas.{Old, new, met, at, meets_new, Alike, lines_law}
+use Rattle.page_roff_source.proofs.RunLemmas.{Old, new, named, at, meets_new, Alike, lines_law}
 
 module _ (units : List ℕ → ℕ) where
   abbrev e : Effects states_laws.State
@@ -45,7 +46,7 @@ module _ (units : List ℕ → ℕ) where
   unfolding fields
   reread_law b = charge_fields b.left b.gave_up b.taken b.rest
 
-  meets_law : (begun : Bool) (b : Old) → meets_new begun (new b) ≡ met (budgets.meet e begun b)
+  meets_law : (begun : Bool) (b : Old) → meets_new begun (new b) ≡ named (budgets.meet e begun b)
   unfolding budgets.meet budgets.whether_run
   meets_law false b = refl
   meets_law true b = ap (λ t. (not t.gave_up, t)) (reread_law b)
@@ -81,7 +82,7 @@ module _ (units : List ℕ → ℕ) where
   abbrev around : ℕ → Option (List (List ℕ)) → Around
   around depth args = record { is_page = false; setting = record { units = units; arguments = args }; may_run = nat_lt 0 depth; calls = runs_at units depth args }
 
-  abbrev inside : ℕ → Kind → Meaning (List ℕ) Old
+  abbrev inside : ℕ → Kind → Meaning Old
   inside depth = langs.meaning_by lang (is_some depth) (langs.done_at lang depth)
 
   some_law : (depth : ℕ) → nat_lt 0 depth ≡ is_some depth
@@ -100,7 +101,7 @@ module _ (units : List ℕ → ℕ) where
   unopened_body args true b = refl
   unopened_body args false b = refl
 
-  body_alike : (depth : ℕ) (args : Option (List (List ℕ))) → DoesSo depth (body args) → Alike (λ t. t) (λ text. reread) (around depth args) (inside depth (body args))
+  body_alike : (depth : ℕ) (args : Option (List (List ℕ))) → DoesSo depth (body args) → Alike (λ t. t) (λ text. reread) (λ text b. b) (around depth args) (inside depth (body args))
   unfolding langs.meaning_by language budgets.meaning budgets.begin_line budgets.test budgets.read_line budgets.end_line test after with_rest effects tested_after
   body_alike depth args so = record {
     begins = λ x b. reread_law b;
@@ -113,8 +114,8 @@ module _ (units : List ℕ → ℕ) where
     reads = λ o x b. ap (λ t. after (line_outcome (setting_of units (body args)) o (o.is_run && not t.gave_up) x t.memory) t) (reread_law b);
     ends_region = λ o x b. ap (λ t. after (end_outcome o (o.is_run && not t.gave_up) t.memory) t) (reread_law b);
     opens_loop = λ h b. refl;
-    collects = λ k x b. gather_law (loop_text k x) b;
-    keeps = λ x b. gather_law (Some x) b;
+    collects = λ k t b. gather_law (loop_text k t) b;
+    keeps = λ t b. gather_law (Some t) b;
     closes_loop = λ b. rw (some_law depth) (so _ b ∙ ap (λ d. new (langs.done_at lang depth (body args) d)) (closed_law (not b.gave_up) (is_some depth) b));
   }
 
@@ -123,12 +124,18 @@ module _ (units : List ℕ → ℕ) where
   abbrev ended_at : At → State
   ended_at p = after (finish_outcome p.place.region p.place.levels.in_loop p.state.gave_up p.state.memory) p.state
 
+  no_heads : (m : Meaning Old) (lines : List (List ℕ)) (p : old.At Old) → each_line m (λ t. t) (λ text b. b) lines p ≡ step_lines m lines p
+  unfolding each_line step_lines
+  no_heads m [] p = refl
+  no_heads m (line ∷ lines) p = no_heads m lines (step m line p)
+
   body_law : (depth : ℕ) (args : Option (List (List ℕ))) → DoesSo depth (body args) → (lines : List (List ℕ)) (b : Old)
       → runs.run_body (around depth args) lines (new b) ≡ new (langs.run_body lang (inside depth (body args)) lines b)
   unfolding runs.run_body langs.run_body finish_at language with_rest effects after
   body_law depth args so lines b =
-      ap ended_at (lines_law (λ t. t) (λ text. reread) (around depth args) (inside depth (body args)) (body_alike depth args so) lines
-      (record { place = first_place; state = b }))
+      let p : old.At Old = record { place = first_place; state = b } in
+      ap ended_at (lines_law (λ t. t) (λ text. reread) (λ text b. b) (around depth args) (inside depth (body args)) (body_alike depth args so) lines p
+      ∙ ap at (no_heads (inside depth (body args)) lines p))
 
   module _ (depth : ℕ) (args : Option (List (List ℕ))) (so : DoesSo depth (body args)) (condition : List ℕ) (lines : List (List ℕ)) where
     abbrev turns_old : ℕ → Old → Old
@@ -186,11 +193,8 @@ module _ (units : List ℕ → ℕ) where
   abbrev on_page : Around
   on_page = record { is_page = true; setting = record { units = units; arguments = None }; may_run = true; calls = runs_at units CALLS None }
 
-  abbrev page_parts : Meaning SourceLine Old
-  page_parts = headed (λ x. x.text) head_of (langs.meaning_at lang CALLS page)
-
-  page_alike : Alike (λ x. x.text) page_line on_page page_parts
-  unfolding headed langs.meaning_at langs.meaning_by language budgets.meaning budgets.begin_line budgets.test budgets.read_line budgets.end_line test after
+  page_alike : Alike (λ x. x.text) page_line head_of on_page (langs.meaning_at lang CALLS page)
+  unfolding langs.meaning_at langs.meaning_by language budgets.meaning budgets.begin_line budgets.test budgets.read_line budgets.end_line test after
       with_rest effects tested_after unopened_by page_line is_some
   page_alike = record {
     begins = λ x b. refl;
@@ -203,8 +207,8 @@ module _ (units : List ℕ → ℕ) where
     reads = λ o x b. refl;
     ends_region = λ o x b. refl;
     opens_loop = λ h b. refl;
-    collects = λ k x b. gather_law (loop_text k x.text) b;
-    keeps = λ x b. gather_law (Some x.text) b;
+    collects = λ k t b. gather_law (loop_text k t) b;
+    keeps = λ t b. gather_law (Some t) b;
     closes_loop = λ b. does_law CALLS page _ b ∙ ap (λ d. new (langs.done_at lang CALLS page d)) (closed_law (not b.gave_up) true b);
   }
 
@@ -212,4 +216,4 @@ module _ (units : List ℕ → ℕ) where
   pub page_law : (lines : List SourceLine) (p : old.At Old)
       → runs.run_page units lines (at p) ≡ at (langs.run_page_lines lang (λ x. x.text) head_of lines p)
   unfolding runs.run_page langs.run_page_lines
-  page_law lines p = lines_law (λ x. x.text) page_line on_page page_parts page_alike lines p
+  page_law lines p = lines_law (λ x. x.text) page_line head_of on_page (langs.meaning_at lang CALLS page) page_alike lines p

@@ -18,7 +18,7 @@ unfolding machine.turn_if
 turn_step l t n true f g gs s e h = let k : t.left - 1 ≡ n = omega arith in rw (e, k) refl
 turn_step l t n false f g gs s e h = refl
 
-turns_step : {S : Type 0} (l : Language S) (m : Meaning (List ℕ) S) (t : Turning) (left : ℕ) (region : Option Opened) (parts : List (LinePart (List ℕ))) (lines : List (List ℕ)) (f g : Frame) (gs : List Frame) (s : S)
+turns_step : {S : Type 0} (l : Language S) (m : Meaning S) (t : Turning) (left : ℕ) (region : Option Opened) (parts : List (LinePart (List ℕ))) (lines : List (List ℕ)) (f g : Frame) (gs : List Frame) (s : S)
     → f.turning ≡ Some t → t.left ≡ left
     → Some (machine.turn_next l left f.kind t g gs (machine.finish_if l t.begun (end_of region f s))) ≡ step_in l m (turn_or_end (turn_left left t.condition) region t.begun) parts lines f (g ∷ gs) s
 unfolding step_in machine.turn_next
@@ -26,20 +26,20 @@ turns_step l m t zero region parts lines f g gs s e h = refl
 turns_step l m t (suc n) region parts lines f g gs s e h =
     let v = l.turn f.kind t.condition (machine.finish_if l t.begun (end_of region f s)) in turn_step l t n v.0 f g gs v.1 e h
 
-end_step : {S : Type 0} (l : Language S) (m : Meaning (List ℕ) S) (turning : Option Turning) (region : Option Opened) (parts : List (LinePart (List ℕ))) (lines : List (List ℕ)) (f g : Frame) (gs : List Frame) (s : S)
+end_step : {S : Type 0} (l : Language S) (m : Meaning S) (turning : Option Turning) (region : Option Opened) (parts : List (LinePart (List ℕ))) (lines : List (List ℕ)) (f g : Frame) (gs : List Frame) (s : S)
     → f.turning ≡ turning
     → Some (machine.body_next l turning f.kind g gs (end_of region f s)) ≡ step_in l m (turn_or_end (turn_in turning) region (has_begun turning)) parts lines f (g ∷ gs) s
 unfolding step_in machine.body_next machine.finish_if
 end_step l m None region parts lines f g gs s e = refl
 end_step l m (Some t) region parts lines f g gs s e = turns_step l m t t.left region parts lines f g gs s e refl
 
-step_around : {S : Type 0} (l : Language S) (m : Meaning (List ℕ) S) (region : Option Opened) (parts : List (LinePart (List ℕ))) (lines : List (List ℕ)) (f : Frame) (under : List Frame) (s : S)
+step_around : {S : Type 0} (l : Language S) (m : Meaning S) (region : Option Opened) (parts : List (LinePart (List ℕ))) (lines : List (List ℕ)) (f : Frame) (under : List Frame) (s : S)
     → machine.source_next l f.turning f.kind under (end_of region f s) ≡ step_in l m (next_around f.turning region under) parts lines f under s
 unfolding step_in machine.source_next
 step_around l m region parts lines f [] s = refl
 step_around l m region parts lines f (g ∷ gs) s = end_step l m f.turning region parts lines f g gs s refl
 
-steps : {S : Type 0} (l : Language S) (m : Meaning (List ℕ) S) (region : Option Opened) (parts : List (LinePart (List ℕ))) (lines : List (List ℕ)) (f : Frame) (under : List Frame) (s : S)
+steps : {S : Type 0} (l : Language S) (m : Meaning S) (region : Option Opened) (parts : List (LinePart (List ℕ))) (lines : List (List ℕ)) (f : Frame) (under : List Frame) (s : S)
     → machine.next_in l m region parts lines f under s ≡ step_in l m (next_in f.turning region parts lines under) parts lines f under s
 unfolding step_in machine.next_in
 steps l m None (part ∷ more) lines f under s = refl

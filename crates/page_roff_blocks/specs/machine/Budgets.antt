@@ -87,7 +87,7 @@ module _ {R : Type 0} (e : Effects R) where
   collect_some None s = s
   collect_some (Some text) s = with_rest s (e.collects (not s.gave_up) text s.rest)
 
-  unfoldable pub meaning : Kind → Meaning (List ℕ) (Budgeted R)
+  unfoldable pub meaning : Kind → Meaning (Budgeted R)
   meaning kind =
       record {
         begins = λ line s. begin_line kind s;

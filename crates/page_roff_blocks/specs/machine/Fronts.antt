@@ -27,7 +27,7 @@ module _ {S : Type 0} (front : S → S) where
   over_done (repeats condition lines s) = repeats condition lines (front s)
 
   -- the parts of a source do the same after it
-  pub record IsFrontOfParts (m : Meaning (List ℕ) S) : Type 0 where
+  pub record IsFrontOfParts (m : Meaning S) : Type 0 where
     pub begins : (line : List ℕ) (s : S) → m.begins line (front s) ≡ front (m.begins line s)
     pub meets : (is_remainder : Bool) (s : S) → m.meets is_remainder (front s) ≡ over_pair (m.meets is_remainder s)
     pub tests : (condition : Condition (List ℕ)) (s : S) → m.tests condition (front s) ≡ over_pair (m.tests condition s)

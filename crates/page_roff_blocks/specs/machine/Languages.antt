@@ -1,8 +1,9 @@
--- A machine: what a source does with its calls of macros and its loops, by recursion on its forest. Trust needs no reading of it.
+-- A machine: what a source does with its calls of macros and its loops. Trust needs no reading of it.
 use Rattle.std.specs.Prelude.{ℕ, zero, suc, ◌+◌, Bool, true, false, List, Option, Some, None}
 use Rattle.page_roff_blocks.specs.Forest.{first_place}
 use Rattle.page_roff_syntax.specs.Regions.{Opened}
-use Rattle.page_roff_blocks.specs.machine.Run.{Meaning, At, run_lines, headed}
+use Rattle.page_roff_blocks.specs.machine.Run.{Meaning, At}
+use Rattle.page_roff_blocks.specs.machine.Steps.{step_lines, each_line}
 use Rattle.page_core_base.specs.Limits.{CALLS, REREAD}
 
 -- A source is the page, or a body that runs: that of a macro with its arguments, or that of a loop with those of the innermost macro, if one
@@ -39,7 +40,7 @@ TURNS = REREAD + 2
 
 -- What the parts of a source do. A leaf and a loop learn whether one more source may run.
 pub record Language (S : Type 0) : Type 0 where
-  pub parts : Kind → Meaning (List ℕ) S
+  pub parts : Kind → Meaning S
   pub leaf : Bool → Kind → List ℕ → S → Done S
   -- a loop is whole
   pub closes : Bool → S → Done S
@@ -62,8 +63,8 @@ module _ {S : Type 0} (l : Language S) where
   finish_at a = l.finish a.place.region a.place.levels.in_loop a.state
 
   -- a body runs down to its end
-  unfoldable pub run_body : Meaning (List ℕ) S → List (List ℕ) → S → S
-  run_body m lines s = finish_at (run_lines m (λ t. t) lines (record { place = first_place; state = s }))
+  unfoldable pub run_body : Meaning S → List (List ℕ) → S → S
+  run_body m lines s = finish_at (step_lines m lines (record { place = first_place; state = s }))
 
   -- A loop with so many turns at most: a turn comes, and where it runs the body runs and a turn comes again.
   unfoldable pub turns : ℕ → (S → S) → Kind → List ℕ → S → S
@@ -72,13 +73,13 @@ module _ {S : Type 0} (l : Language S) where
       let v = l.turn kind condition s in run_if v.0 (λ s. turns n run kind condition (run s)) v.1
 
   -- what comes of a leaf or a loop, by what the parts of bodies mean
-  unfoldable pub done_by : (Kind → Meaning (List ℕ) S) → Kind → Done S → S
+  unfoldable pub done_by : (Kind → Meaning S) → Kind → Done S → S
   done_by inside kind (gives s) = s
   done_by inside kind (calls lines args s) = run_body (inside (body (Some args))) lines s
   done_by inside kind (repeats condition lines s) = turns TURNS (run_body (inside (inner kind)) lines) (inner kind) condition s
 
   -- the parts of a source by what comes of its leaves and loops, with whether one more source may run
-  unfoldable pub meaning_by : Bool → (Kind → Done S → S) → Kind → Meaning (List ℕ) S
+  unfoldable pub meaning_by : Bool → (Kind → Done S → S) → Kind → Meaning S
   meaning_by may_run done kind =
       record (l.parts kind) {
         gives = λ text s. done kind (l.leaf may_run kind text s);
@@ -90,13 +91,13 @@ module _ {S : Type 0} (l : Language S) where
   done_at zero kind done = state_of done
   done_at (suc depth) kind done = done_by (meaning_by (is_some depth) (done_at depth)) kind done
 
-  unfoldable pub meaning_at : ℕ → Kind → Meaning (List ℕ) S
+  unfoldable pub meaning_at : ℕ → Kind → Meaning S
   meaning_at depth kind = meaning_by (is_some depth) (done_at depth) kind
 
   -- lines of the page, from where the lines before them left it
   unfoldable pub run_page : List (List ℕ) → At S → At S
-  run_page lines a = run_lines (meaning_at CALLS page) (λ t. t) lines a
+  run_page lines a = step_lines (meaning_at CALLS page) lines a
 
   -- the same of lines that each have more than a text, as a number: what comes before a line, and then what its text does
   unfoldable pub run_page_lines : {X : Type 0} → (X → List ℕ) → (X → S → S) → List X → At S → At S
-  run_page_lines text head lines a = run_lines (headed text head (meaning_at CALLS page)) text lines a
+  run_page_lines text head lines a = each_line (meaning_at CALLS page) text head lines a

@@ -92,11 +92,11 @@ stands_at r = record { place = record { region = r.top.region; levels = r.top.cu
 
 module _ {S : Type 0} (l : Language S) where
   -- what is left of a source's present line
-  unfoldable pub line_in : Meaning (List ℕ) S → Option Opened → Frame → S → At S
+  unfoldable pub line_in : Meaning S → Option Opened → Frame → S → At S
   line_in m None f s = step_parts m f.parts f.cursor s
   line_in m (Some o) f s = record { place = record { region = Some o; levels = f.cursor.levels }; state = s }
 
-  unfoldable pub line_rest : Meaning (List ℕ) S → Frame → S → At S
+  unfoldable pub line_rest : Meaning S → Frame → S → At S
   line_rest m f s = line_in m f.region f s
 
   -- a turn of a loop that was begun ends
@@ -105,17 +105,17 @@ module _ {S : Type 0} (l : Language S) where
   finish_if false a = a.state
 
   -- a body's lines are over: a loop may have more turns
-  unfoldable pub ended : Option Turning → Meaning (List ℕ) S → Kind → At S → S
+  unfoldable pub ended : Option Turning → Meaning S → Kind → At S → S
   ended None m kind a = finish_at l a
   ended (Some t) m kind a = turns l t.left (run_body l m t.lines) kind t.condition (finish_if t.begun a)
 
   -- what comes after the innermost source's present line, in it and then in those around it
   unfoldable pub after_line : Kind → Option Turning → List (List ℕ) → List Frame → At S → At S
-  after_line kind turning lines [] a = step_lines (meaning_at l (depth []) kind) (λ t. t) lines a
+  after_line kind turning lines [] a = step_lines (meaning_at l (depth []) kind) lines a
   after_line kind turning lines (g ∷ gs) a =
       let m = meaning_at l (depth (g ∷ gs)) kind in
       after_line g.kind g.turning g.lines gs
-      (line_rest (meaning_at l (depth gs) g.kind) g (ended turning m kind (step_lines m (λ t. t) lines a)))
+      (line_rest (meaning_at l (depth gs) g.kind) g (ended turning m kind (step_lines m lines a)))
 
   unfoldable pub rest : Frame → List Frame → S → At S
   rest f under s = after_line f.kind f.turning f.lines under (line_rest (meaning_at l (depth under) f.kind) f s)
@@ -142,17 +142,17 @@ module _ {S : Type 0} (l : Language S) where
   loop_next f under s =
       let may_run = is_some (depth under) in leaf_next may_run f under (l.closes may_run s)
 
-  unfoldable pub loop_if : Meaning (List ℕ) S → Bool → LoopHead (List ℕ) → Frame → List Frame → S → Running S
+  unfoldable pub loop_if : Meaning S → Bool → LoopHead (List ℕ) → Frame → List Frame → S → Running S
   loop_if m true h f under s = loop_next f under (m.opens_loop h s)
   loop_if m false h f under s = record { top = f; under = under; state = s }
 
-  unfoldable pub end_next : Meaning (List ℕ) S → Ended → Frame → List Frame → S → Running S
+  unfoldable pub end_next : Meaning S → Ended → Frame → List Frame → S → Running S
   end_next m endings.Block f under s = record { top = f; under = under; state = s }
   end_next m endings.Loop f under s = loop_next f under s
   end_next m endings.Nothing f under s = record { top = f; under = under; state = m.unopened s }
 
   -- a part of a line
-  unfoldable pub part_next : Meaning (List ℕ) S → LinePart (List ℕ) → List (LinePart (List ℕ)) → Frame → List Frame → S → Running S
+  unfoldable pub part_next : Meaning S → LinePart (List ℕ) → List (LinePart (List ℕ)) → Frame → List Frame → S → Running S
   part_next m (Leaf text) more f under s =
       let q = met m f.cursor s in leaf_if q.0 text (at_part f more (after_part f.cursor.levels)) under q.1
   part_next m (Guard h) more f under s =
@@ -167,14 +167,14 @@ module _ {S : Type 0} (l : Language S) where
       let a = step_region m head f.cursor s in record { top = between f a.place.region f.lines; under = under; state = a.state }
 
   -- a line in a region, which belongs to the loop around it, if one is collected
-  unfoldable pub region_next : Meaning (List ℕ) S → Bool → Opened → List ℕ → List (List ℕ) → Frame → List Frame → S → Running S
+  unfoldable pub region_next : Meaning S → Bool → Opened → List ℕ → List (List ℕ) → Frame → List Frame → S → Running S
   region_next m true o line more f under s =
       record { top = between f None more; under = under; state = keep_if m f.cursor.levels.in_loop line (m.ends_region o line s) }
   region_next m false o line more f under s =
       record { top = between f (Some o) more; under = under; state = keep_if m f.cursor.levels.in_loop line (m.reads o line s) }
 
   -- a line begins
-  unfoldable pub line_next : Meaning (List ℕ) S → List ℕ → List (List ℕ) → Frame → List Frame → S → Running S
+  unfoldable pub line_next : Meaning S → List ℕ → List (List ℕ) → Frame → List Frame → S → Running S
   line_next m line more f under s =
       record {
         top = record f { region = None; parts = line_parts line; cursor = at_line f.cursor.levels; lines = more };
@@ -201,7 +201,7 @@ module _ {S : Type 0} (l : Language S) where
   source_next turning kind [] a = None
   source_next turning kind (g ∷ gs) a = Some (body_next turning kind g gs a)
 
-  unfoldable pub next_in : Meaning (List ℕ) S → Option Opened → List (LinePart (List ℕ)) → List (List ℕ) → Frame → List Frame → S → Option (Running S)
+  unfoldable pub next_in : Meaning S → Option Opened → List (LinePart (List ℕ)) → List (List ℕ) → Frame → List Frame → S → Option (Running S)
   next_in m None (part ∷ more) lines f under s = Some (part_next m part more f under s)
   next_in m None [] (line ∷ more) f under s = Some (line_next m line more f under s)
   next_in m None [] [] f under s =

@@ -1,4 +1,5 @@
--- The parts of a source, one after another: the steps of the code. Trust needs no reading of it. Source: roff(7), "if", "while", "de", "ig".
+-- A machine: the parts of a source, one after another. That this is what the definitions say of its forest is the law `machine_law` of `page_roff_source`; trust needs no
+-- reading of it. Source: roff(7), "if", "while", "de", "ig".
 use Rattle.std.specs.Prelude.{ℕ, Bool, true, false, List, [], ◌∷◌, length, Option, Some, None}
 use Rattle.page_roff_heads.specs.declared.loops.LoopHead.{LoopHead}
 use Rattle.page_roff_blocks.specs.declared.line_parts.LinePart.{LinePart}
@@ -8,12 +9,12 @@ use Rattle.page_roff_blocks.specs.declared.line_parts.Opening.{Opening}
 use Rattle.page_roff_blocks.specs.declared.line_parts.Opening.TheVariants as openings
 use Rattle.page_roff_syntax.specs.declared.region_heads.RegionHead.{RegionHead}
 use Rattle.page_roff_blocks.specs.Parts.{line_parts}
-use Rattle.page_roff_syntax.specs.Regions.{is_ending, Opened, opened}
+use Rattle.page_roff_syntax.specs.Regions.{is_ending, Opened}
 use Rattle.page_roff_blocks.specs.Forest.{Levels, bit_after}
 use Rattle.page_roff_blocks.specs.laws.Views.{way_of, enter, open_loop, skip, leave, what_ends, BlockCursor, at_line, after_part, guarded_by, reached}
-use Rattle.page_roff_blocks.specs.machine.Run.{Meaning, At, meet_as, value, leaf_if, loop_if, refuse_if, keep_if, end_by}
+use Rattle.page_roff_blocks.specs.machine.Run.{Meaning, At, meet_as, value, leaf_if, loop_if, refuse_if, keep_if, end_by, open_region}
 
-module _ {X S : Type 0} (m : Meaning X S) where
+module _ {S : Type 0} (m : Meaning S) where
   -- how the next part is met
   unfoldable pub met : BlockCursor → S → Bool × S
   met cursor s = meet_as m (reached cursor) s
@@ -59,9 +60,7 @@ module _ {X S : Type 0} (m : Meaning X S) where
 
   -- the head of a region, with which its line ends
   unfoldable pub step_region : RegionHead (List ℕ) → BlockCursor → S → At S
-  step_region r cursor s =
-      let q = met cursor s in
-      record { place = record { region = Some (opened r q.0); levels = cursor.levels }; state = m.opens_region r q.0 q.1 }
+  step_region head cursor s = open_region m head cursor.levels (met cursor s)
 
   -- the parts of a line that are left
   unfoldable pub step_parts : List (LinePart (List ℕ)) → BlockCursor → S → At S
@@ -74,27 +73,36 @@ module _ {X S : Type 0} (m : Meaning X S) where
   step_parts (Region head ∷ rest) cursor s = step_region head cursor s
 
   -- a line in an open region
-  unfoldable pub step_inside : Bool → Opened → X → Levels → S → At S
+  unfoldable pub step_inside : Bool → Opened → List ℕ → Levels → S → At S
   step_inside true o line l s = record { place = record { region = None; levels = l }; state = keep_if m l.in_loop line (m.ends_region o line s) }
   step_inside false o line l s = record { place = record { region = Some o; levels = l }; state = keep_if m l.in_loop line (m.reads o line s) }
 
   -- a line that begins, in a loop that is collected or not
-  unfoldable pub collect_if : Bool → ℕ → X → S → S
+  unfoldable pub collect_if : Bool → ℕ → List ℕ → S → S
   collect_if true k line s = m.collects k line s
   collect_if false k line s = s
 
-  unfoldable pub begin_line : X → Levels → S → S
+  unfoldable pub begin_line : List ℕ → Levels → S → S
   begin_line line l s = collect_if l.in_loop l.skipped line (m.begins line s)
 
-  unfoldable pub step_from : (X → List ℕ) → Option Opened → X → Levels → S → At S
-  step_from text None line l s = step_parts (line_parts (text line)) (at_line l) (begin_line line l s)
-  step_from text (Some o) line l s = step_inside (is_ending o.ending (text line)) o line l s
+  unfoldable pub step_from : Option Opened → List ℕ → Levels → S → At S
+  step_from None line l s = step_parts (line_parts line) (at_line l) (begin_line line l s)
+  step_from (Some o) line l s = step_inside (is_ending o.ending line) o line l s
 
   -- one line
-  unfoldable pub step : (X → List ℕ) → X → At S → At S
-  step text line a = step_from text a.place.region line a.place.levels a.state
+  unfoldable pub step : List ℕ → At S → At S
+  step line a = step_from a.place.region line a.place.levels a.state
 
   -- line after line
-  unfoldable pub step_lines : (X → List ℕ) → List X → At S → At S
-  step_lines text [] a = a
-  step_lines text (line ∷ lines) a = step_lines text lines (step text line a)
+  unfoldable pub step_lines : List (List ℕ) → At S → At S
+  step_lines [] a = a
+  step_lines (line ∷ lines) a = step_lines lines (step line a)
+
+  -- lines that each have more than a text, as a number: what comes before a line, and then what its text does
+  module _ {X : Type 0} (text : X → List ℕ) (head : X → S → S) where
+    abbrev pub after_head : X → At S → At S
+    after_head x a = record { place = a.place; state = head x a.state }
+
+    unfoldable pub each_line : List X → At S → At S
+    each_line [] a = a
+    each_line (x ∷ xs) a = each_line xs (step (text x) (after_head x a))

@@ -73,7 +73,7 @@ Answers left old out does result new out_new =
 
 -- ---- what is done
 
-abbrev pub parts_of : BudgetedActions → Kind → Meaning (List ℕ) (Budgeted State)
+abbrev pub parts_of : BudgetedActions → Kind → Meaning (Budgeted State)
 parts_of b kind = meaning (acting_effects (output_of b)) kind
 
 abbrev pub charged_in : BudgetedActions → Kind → Budgeted State → Budgeted State
@@ -89,11 +89,11 @@ abbrev pub value_in : BudgetedActions → Branch (List ℕ) → Bool → Kind �
 value_in b branch bit kind s = value (parts_of b kind) branch bit s
 
 -- the value of a head, where it is run
-abbrev pub answer_if : {S : Type 0} → Meaning (List ℕ) S → Branch (List ℕ) → Bool → Bool → S → Option Bool × S
+abbrev pub answer_if : {S : Type 0} → Meaning S → Branch (List ℕ) → Bool → Bool → S → Option Bool × S
 answer_if m branch bit true s = let v = value m branch bit s in (Some v.0, v.1)
 answer_if m branch bit false s = (None, s)
 
-abbrev pub answer_after : {S : Type 0} → Meaning (List ℕ) S → Branch (List ℕ) → Bool → Bool × S → Option Bool × S
+abbrev pub answer_after : {S : Type 0} → Meaning S → Branch (List ℕ) → Bool → Bool × S → Option Bool × S
 answer_after m branch bit q = answer_if m branch bit q.0 q.1
 
 abbrev pub answer_in : BudgetedActions → Branch (List ℕ) → Bool → Reached → Kind → Budgeted State
@@ -101,7 +101,7 @@ abbrev pub answer_in : BudgetedActions → Branch (List ℕ) → Bool → Reache
 answer_in b branch bit reached kind s = answer_after (parts_of b kind) branch bit (met_in b reached kind s)
 
 -- the head of a region
-abbrev pub region_after : {S : Type 0} → Meaning (List ℕ) S → RegionHead (List ℕ) → Bool × S → Bool × S
+abbrev pub region_after : {S : Type 0} → Meaning S → RegionHead (List ℕ) → Bool × S → Bool × S
 region_after m head q = (q.0, m.opens_region head q.0 q.1)
 
 abbrev pub region_in : BudgetedActions → RegionHead (List ℕ) → Reached → Kind → Budgeted State
@@ -109,11 +109,11 @@ abbrev pub region_in : BudgetedActions → RegionHead (List ℕ) → Reached →
 region_in b head reached kind s = region_after (parts_of b kind) head (met_in b reached kind s)
 
 -- the head of a loop, where it is run
-abbrev pub opens_if : {S : Type 0} → Meaning (List ℕ) S → LoopHead (List ℕ) → Bool → S → Bool × S
+abbrev pub opens_if : {S : Type 0} → Meaning S → LoopHead (List ℕ) → Bool → S → Bool × S
 opens_if m head true s = (true, m.opens_loop head s)
 opens_if m head false s = (false, s)
 
-abbrev pub opens_after : {S : Type 0} → Meaning (List ℕ) S → LoopHead (List ℕ) → Bool × S → Bool × S
+abbrev pub opens_after : {S : Type 0} → Meaning S → LoopHead (List ℕ) → Bool × S → Bool × S
 opens_after m head q = opens_if m head q.0 q.1
 
 abbrev pub opened_in : BudgetedActions → LoopHead (List ℕ) → Reached → Kind → Budgeted State → Bool × Budgeted State

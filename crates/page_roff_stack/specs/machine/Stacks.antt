@@ -161,7 +161,7 @@ turn_if false f under s = left under s
 
 module _ {S : Type 0} (l : Language S) where
   -- what is next is done to the state: the step of the machine
-  unfoldable pub step_in : Meaning (List ℕ) S → Next (List ℕ) Opened → List (LinePart (List ℕ)) → List (List ℕ) → Frame → List Frame → S → Option (Running S)
+  unfoldable pub step_in : Meaning S → Next (List ℕ) Opened → List (LinePart (List ℕ)) → List (List ℕ) → Frame → List Frame → S → Option (Running S)
   step_in m (Part part) parts lines f under s = Some (part_next l m part (drop 1 parts) f under s)
   step_in m (Line line) parts lines f under s = Some (line_next l m line (drop 1 lines) f under s)
   step_in m (RegionLine o line is_end) parts lines f under s = Some (region_next l m is_end o line (drop 1 lines) f under s)
