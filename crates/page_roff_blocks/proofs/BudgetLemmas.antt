@@ -1,5 +1,5 @@
 -- What a source line takes of its budget: helpers of proofs.
-use Rattle.std.proofs.Common.{ℕ, zero, suc, ◌+◌, ◌≤◌, Bool, true, false, List, [], ◌∷◌, refl, sym, subst, arith}
+use Rattle.std.proofs.Common.{ℕ, zero, suc, ◌+◌, ◌≤◌, Bool, true, false, List, [], ◌∷◌, refl, arith}
 use Rattle.page_roff_blocks.specs.machine.Run.{At}
 use Rattle.page_roff_blocks.specs.machine.Steps.{step, step_lines}
 use Rattle.page_core_base.specs.declared.limits.TheConstants.{CALLS, REREAD}

@@ -11,8 +11,8 @@ use Rattle.page_roff_blocks.specs.laws.Views.{BlockCursor, at_line, after_part, 
 use Rattle.page_roff_syntax.specs.Regions.{Opened}
 use Rattle.page_roff_blocks.specs.machine.Run.{At, meet_as}
 use Rattle.page_roff_blocks.specs.machine.Steps.{met, begin_line, collect_if}
-use Rattle.page_roff_blocks.specs.machine.Languages.{Kind, page, body, Language, Done, calls, finish_at, gives, is_some, meaning_at, meaning_by, run_page}
-use Rattle.page_roff_blocks.specs.machine.Machine.{Frame, Running, Turning, at_page, at_part, body_next, depth, entered, next, next_in, line_next, part_next, leaf_if, leaf_next, rest_of, source_next, stands_at}
+use Rattle.page_roff_blocks.specs.machine.Languages.{Kind, page, body, Language, Done, calls, gives, is_some, meaning_at, meaning_by, run_page}
+use Rattle.page_roff_blocks.specs.machine.Machine.{Frame, Running, Turning, at_page, at_part, depth, entered, next, next_in, line_next, part_next, leaf_if, leaf_next, rest_of, source_next, stands_at}
 use Rattle.page_roff_blocks.proofs.MachineLemmas.{next_law, end_law, page_law}
 use Rattle.page_roff_blocks.specs.machine.Budgets.{Budgeted, language, meaning, meet, whether_run, done_with, with_rest}
 use Rattle.page_roff_blocks.specs.machine.Budgets as budgets
@@ -21,7 +21,6 @@ use Rattle.page_roff_blocks.specs.machine.Measures.{AreOnLine, HasMeasure, IsFir
 use Rattle.page_roff_effects.specs.machine.Acting.{with_number, with_arguments, acting_effects, acting_setting, measured, ActingSetting}
 use Rattle.page_roff_effects.specs.machine.Effects.{effects, done_after, done_by}
 use Rattle.page_roff_effects.specs.Lines.{leaf_outcome}
-use Rattle.page_roff_effects.specs.Regions.{finish_outcome}
 use Rattle.page_roff_definitions.specs.Definitions.{MacroCall}
 use Rattle.page_roff_values.specs.Values.{arguments_in, lines_in}
 use Rattle.page_roff_effects.specs.States.{Memory, PartOutcome, Given, takes, call_product, line_product, numbered}
@@ -31,11 +30,11 @@ use Rattle.page_roff_stack.specs.machine.Stacks.{Stack, is_nothing, next_of}
 use Rattle.page_roff_stack.specs.machine.Stacks as stacks
 use Rattle.page_roff_machine.proofs.GoLemmas.{calls_next}
 use Rattle.page_roff_machine.specs.declared.runners.Runner.{Runner}
-use Rattle.page_roff_machine.specs.machine.AtOnce.{CallsAtOnce, Enters, IsOutside, TakesAtOnce, Keeps, page_after}
+use Rattle.page_roff_machine.specs.machine.AtOnce.{CallsAtOnce, IsOutside, TakesAtOnce, Keeps, page_after}
 use Rattle.page_roff_machine.specs.machine.Machines.{Takes, Begins, is_idle, begun_at, outcome_of, running_of, stands_after}
 use Rattle.page_roff_machine.specs.machine.Stepping.{machine_of, IsSound}
 use Rattle.page_roff_machine.specs.machine.Moving.{AreKept, called, frames_of}
-use Rattle.page_roff_machine.proofs.MachineLemmas.{begins, begun_sound, idle_stands}
+use Rattle.page_roff_machine.proofs.MachineLemmas.{begins, begun_sound}
 
 -- ---- the run of a line that is one part, outside of regions, loops and skipped blocks
 
@@ -140,12 +139,6 @@ leaf_called output line bit outer m count call e =
     ∙ ap (λ (r : Running (Budgeted State)). Some r)
     (calls_next l b f [] (lines_in call.body) (arguments_in call.packed) (state_with count m []) may_call_on_page)
 
-empty_ends : (output : Output) (packed : List ℕ) (cursor : BlockCursor) (m : Memory) (count : ℕ)
-    → next (language (acting_effects output)) (in_call (record { body = []; packed = packed }) cursor (state_with count m []))
-    ≡ Some (alone (frame_at [] cursor) (state_with count m []))
-unfolding next next_in source_next body_next finish_at language with_rest effects finish_outcome entered outside at_line arguments_in
-empty_ends output packed cursor m count = refl
-
 -- up to the macro
 run_call : (output : Output) (line : List ℕ) (bit : Bool) (outer : List Bool) (m : Memory) (count : ℕ) (call : MacroCall)
     → line_parts line ≡ Leaf line ∷ [] → leaf_outcome (measured (acting_setting output page)) true line m ≡ gives_call call m
@@ -162,19 +155,6 @@ run_call output line bit outer m count call ea eo =
     sym (page_law l line at)
     ∙ next_law l (at_page line at) one first
     ∙ next_law l one inside (leaf_called output line bit outer m (count + 1) call eo)
-
--- to its end, where the macro has no body
-run_empty : (output : Output) (bit : Bool) (outer : List Bool) (packed : List ℕ) (m : Memory) (count : ℕ)
-    → rest_of (language (acting_effects output)) (in_call (record { body = []; packed = packed }) (after_part (level bit outer false 0)) (state_with count m []))
-    ≡ at_levels None (level bit outer false 0) (state_with count m [])
-unfolding stands_at after_part
-run_empty output bit outer packed m count =
-    let l = language (acting_effects output) in
-    let s = state_with count m [] in
-    let cursor = after_part (level bit outer false 0) in
-    let last = alone (frame_at [] cursor) s in
-    next_law l (in_call (record { body = []; packed = packed }) cursor s) last (empty_ends output packed cursor m count)
-    ∙ end_law l last (nothing_left output cursor s)
 
 -- ---- the code's object
 
@@ -251,43 +231,9 @@ inside_is : (r new : Runner) (region : Option Opened) (levels : Levels) (s : Bud
 unfolding entered
 inside_is r new region levels s e er el es = rw (e, er, el, ← es) refl
 
-in_macro : (output : Output) (r new : Runner) (levels : Levels) (s : Budgeted State) → new ≡ called (page_after r) → r.doing.actions.setting.output ≡ output
-    → r.stack.top.region ≡ None → r.stack.top.cursor.levels ≡ levels → (running_of [] (machine_of r)).state ≡ s
-    → outcome_of (machine_of new) ≡ rest_of (language (acting_effects output)) (in_call r.doing.actions.call (after_part levels) s)
-unfolding outcome_of
-in_macro output r new levels s e eo er el es =
-    let same : new.doing.actions.setting.output ≡ output = ap (λ (n : Runner). n.doing.actions.setting.output) e ∙ eo in
-    ap (λ (o : Output). rest_of (language (acting_effects o)) (running_of [] (machine_of new))) same
-    ∙ ap (rest_of (language (acting_effects output))) (inside_is r new None levels s e er el es)
-
-after_macro : (output : Output) (r new : Runner) (levels : Levels) (m : Memory) (count : ℕ) → Enters r new → is_idle (machine_of r) ≡ true
-    → r.doing.actions.setting.output ≡ output → r.stack.top.region ≡ None → r.stack.top.cursor.levels ≡ level levels.bit levels.outer false 0
-    → (running_of [] (machine_of r)).state ≡ state_with count m []
-    → outcome_of (machine_of new) ≡ rest_of (language (acting_effects output)) (in_call r.doing.actions.call (after_part (level levels.bit levels.outer false 0)) (state_with count m []))
-after_macro output r new levels m count h idle eo er el es =
-    let s = state_with count m [] in
-    elim h [
-      | inl empty ↦
-          let call : MacroCall = record { body = []; packed = r.doing.actions.call.packed } in
-          let body : r.doing.actions.call ≡ call = ap (λ (bytes : List ℕ). let k : MacroCall = record { body = bytes; packed = r.doing.actions.call.packed } in k) empty.0 in
-          ap (λ (n : Runner). outcome_of (machine_of n)) empty.1
-          ∙ idle_stands (machine_of r) idle
-          ∙ ap₂ (λ (region : Option Opened) (l : Levels). at_levels region l (running_of [] (machine_of r)).state) er el
-          ∙ ap (at_levels None (level levels.bit levels.outer false 0)) es
-          ∙ sym (run_empty output levels.bit levels.outer r.doing.actions.call.packed m count)
-          ∙ sym (ap (λ (k : MacroCall). rest_of (language (acting_effects output)) (in_call k (after_part (level levels.bit levels.outer false 0)) s)) body)
-      | inr inside ↦ in_macro output r new (level levels.bit levels.outer false 0) s inside eo er el es
-    ]
-
-entered_output : (r new : Runner) → Enters r new → new.doing.actions.setting.output ≡ r.doing.actions.setting.output
-entered_output r new h =
-    elim h [
-      | inl empty ↦ ap (λ (n : Runner). n.doing.actions.setting.output) empty.1
-      | inr inside ↦ ap (λ (n : Runner). n.doing.actions.setting.output) inside
-    ]
-
 pub calls_line : (old new : Runner) (line : List ℕ) (number : ℕ) → is_idle (machine_of old) ≡ true → IsSound old → CallsAtOnce line number old new
     → Begins line number (machine_of old) (machine_of new)
+unfolding outcome_of
 calls_line old new line number idle sound h =
     let output = old.doing.actions.setting.output in
     let m = numbered number old.doing.actions.memory in
@@ -301,7 +247,6 @@ calls_line old new line number idle sound h =
     let eo : leaf_outcome (measured (acting_setting output page)) true line m ≡ gives_call call m =
     ap (λ (s : ActingSetting). leaf_outcome (measured s) true line m) (sym es) ∙ h.call.given in
     let same : before.doing.actions.setting.output ≡ output = ap (λ (s : ActingSetting). s.output) h.call.left.setting in
-    let quiet : is_idle (machine_of before) ≡ true = ap (λ (s : Stack). is_nothing (next_of s)) h.stack ∙ idle in
     let region : before.stack.top.region ≡ None = ap (λ (s : Stack). s.top.region) h.stack ∙ h.outside.region in
     let there : before.stack.top.cursor.levels ≡ level levels.bit levels.outer false 0 = ap (λ (s : Stack). s.top.cursor.levels) h.stack ∙ el in
     let state : (running_of [] (machine_of before)).state ≡ state_with (count + 1) m [] =
@@ -309,9 +254,12 @@ calls_line old new line number idle sound h =
     ∙ ap (λ (k : Memory). budgeted (begun old.doing.budget) (holds k [])) h.call.left.memory in
     let at : begun_at number (machine_of old) ≡ at_levels None (level levels.bit levels.outer false 0) (state_with count m []) =
     ap₂ (λ (region : Option Opened) (l : Levels). at_levels region l (state_with count m [])) h.outside.region el in
+    let out : new.doing.actions.setting.output ≡ output = ap (λ (n : Runner). n.doing.actions.setting.output) h.enters ∙ same in
     record {
-      output = entered_output before new h.enters ∙ same;
-      outcome = after_macro output before new levels m (count + 1) h.enters quiet same region there state
+      output = out;
+      outcome = ap (λ (o : Output). rest_of (language (acting_effects o)) (running_of [] (machine_of new))) out
+          ∙ ap (rest_of (language (acting_effects output)))
+          (inside_is before new None (level levels.bit levels.outer false 0) (state_with (count + 1) m []) h.enters region there state)
           ∙ sym (run_call output line levels.bit levels.outer m count call h.call.leaf eo)
           ∙ sym (ap (run_page (language (acting_effects output)) (line ∷ [])) at);
     }
@@ -326,8 +274,7 @@ inside_sound r new sound e = record {
 
 pub called_sound : (old new : Runner) (line : List ℕ) (number : ℕ) → is_idle (machine_of old) ≡ true → IsSound old → CallsAtOnce line number old new → IsSound new
 called_sound old new line number idle sound h =
-    let before = same_sound old h.before idle sound h.outside h.stack h.call.left.setting in
-    elim h.enters [ inl empty ↦ subst IsSound (sym empty.1) before | inr inside ↦ inside_sound h.before new before inside ]
+    inside_sound h.before new (same_sound old h.before idle sound h.outside h.stack h.call.left.setting) h.enters
 
 -- ---- a line that is not taken at once begins
 

@@ -1,6 +1,5 @@
 -- Steps of the machine, one after another: helpers of proofs.
-use Rattle.std.proofs.Common.{◌≡◌, ℕ, suc, ◌≤◌, ◌==◌, inl, inr, Bool, true, false, List, [], ◌∷◌, ◌++◌, map, length, Some, refl, sym, ap, ◌∙◌, append_assoc, arith}
-use Rattle.std.proofs.lemmas.Bool.Decides.{nat_tests}
+use Rattle.std.proofs.Common.{◌≡◌, ℕ, suc, ◌≤◌, inl, inr, Bool, true, false, List, [], ◌∷◌, ◌++◌, map, Some, refl, sym, ap, ◌∙◌, append_assoc}
 use Rattle.std.proofs.lemmas.List.{append-nil}
 use Rattle.page_core_base.specs.Messages.{Message}
 use Rattle.page_core_base.specs.declared.page_settings.Output.{Output}
@@ -72,12 +71,6 @@ if_done : (progress : Progress) (A B : Type 0) → (A → B) → IfDone progress
 if_done More A B f h = tt
 if_done Line A B f h = tt
 if_done Done A B f h = f h
-
-pub without_bytes : (bytes : List ℕ) → (length bytes == 0) ≡ true → bytes ≡ []
-without_bytes [] e = refl
-without_bytes (b ∷ bs) e =
-    let n : length (b ∷ bs) ≡ 0 = grind (arith, nat_tests) in
-    absurd (omega (arith, n))
 
 module _ {P S : Type 0} (left : P → S → List Message → Type 0) where
   -- ---- what comes next is done, and the stack moves on

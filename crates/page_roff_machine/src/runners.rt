@@ -11,7 +11,7 @@ ghost use Rattle.page_roff_stack.specs.machine.Stacks.{next_of, part_in, is_part
 ghost use Rattle.page_roff_machine.specs.machine.Doing.{IsIn};
 ghost use Rattle.page_roff_machine.specs.machine.Machines.{Advances};
 ghost use Rattle.page_roff_machine.specs.machine.Moving.{Collects, Decides, Moves, Closes, Shifts, Repeats, Suits, CanBegin, called, passes_block, progress_as, way_after, with_arguments_of};
-ghost use Rattle.page_roff_machine.specs.machine.AtOnce.{Enters, IsOutside, TakesAtOnceIf};
+ghost use Rattle.page_roff_machine.specs.machine.AtOnce.{IsOutside, TakesAtOnceIf, page_after};
 ghost use Rattle.page_roff_machine.specs.machine.Stepping.{IsSound, IsMeasured, Steps, machine_of};
 
 use crate::acts::{Act, Progress};
@@ -363,16 +363,13 @@ impl Runner {
             && self.stack.levels().skipped() == 0
     }
 
-    // Enters the macro that was called on a line of the page, without the steps through that line. One without a body is over at once.
+    // Enters the macro that was called on a line of the page, without the steps through that line.
     fn enter_call(&mut self)
         requires idle { is_nothing (next_of self.old.stack) ≡ true }
         requires skips { self.old.stack.top.cursor.levels.skipped ≡ 0 }
         requires fits { IsCallable true self.old.doing.actions.call }
-        ensures { Enters self.old self.new }
+        ensures { self.new ≡ called (page_after self.old) }
     {
-        if self.doing.actions.called_body().is_empty() {
-            return;
-        }
         self.stack.pass_page_line();
         self.call();
     }

@@ -1,5 +1,5 @@
 -- A source line that is taken at once, as the code does it. Trust needs no reading of it. Source: roff(7), "LANGUAGE SYNTAX" and "MACRO SYNTAX".
-use Rattle.std.specs.Prelude.{◌≡◌, ◌⊎◌, ℕ, true, false, List, [], None}
+use Rattle.std.specs.Prelude.{◌≡◌, ℕ, true, false, List, [], None}
 use Rattle.page_core_base.specs.Texts.{TakenLine}
 use Rattle.page_core_base.specs.laws.Views.{line_view}
 use Rattle.page_roff_blocks.specs.machine.Counting.{begun}
@@ -32,11 +32,7 @@ pub record TakesAtOnce (taken : TakenLine) (line : List ℕ) (number : ℕ) (old
 abbrev pub page_after : Runner → Runner
 page_after r = record { stack = record { top = page_passed r.stack.top; under = []; texts = [] }; doing = r.doing }
 
--- the macro that was called on a line of the page is entered; one without a body is over at once
-abbrev pub Enters : Runner → Runner → Type 0
-Enters old new = ((old.doing.actions.call.body ≡ []) × (new ≡ old)) ⊎ (new ≡ called (page_after old))
-
--- a macro was called at once
+-- a macro was called at once, and is entered
 pub record CallsAtOnce (line : List ℕ) (number : ℕ) (old new : Runner) : Type 0 where
   pub outside : IsOutside old.stack
   pub before : Runner
@@ -44,7 +40,7 @@ pub record CallsAtOnce (line : List ℕ) (number : ℕ) (old new : Runner) : Typ
   pub budget : before.doing.budget ≡ begun old.doing.budget
   pub call : let a = with_number number old.doing.actions in
       IsCalled a line (λ may_call. leaf_outcome (measured a.setting) may_call line a.memory) before.doing.actions
-  pub enters : Enters before new
+  pub enters : new ≡ called (page_after before)
 
 -- nothing was done; the actions may know the number of the line
 pub record Keeps (number : ℕ) (old new : Runner) : Type 0 where
