@@ -106,11 +106,8 @@ all_same : (e : RoffEdge) (lines : List SourceLine) → run_all e lines ≡ runs
 unfolding run_all machine.run_all
 all_same e lines = depths.page_law (units_of e.output) lines (machine.before_lines e)
 
-pub given_same : (e : RoffEdge) (lines : List SourceLine) → given e lines ≡ machine.given e lines
-given_same e lines = ap (λ a. a.state.out) (all_same e lines)
-
 pub given-by_line : (e : RoffEdge) (lines : List SourceLine) → given e lines ≡ lines_given e lines
-given-by_line e lines = given_same e lines ∙ (all_stands e lines).out
+given-by_line e lines = ap (λ a. a.state.out) (all_same e lines) ∙ (all_stands e lines).out
 
 -- ---- the edge after lines
 
@@ -132,14 +129,12 @@ same_edge : (e f : RoffEdge) → e.output ≡ f.output → e.place ≡ f.place �
     → idle e ≡ idle f
 same_edge e f a b c d g = rw (a, b, c, d, g) refl
 
-pub done_same : (e : RoffEdge) (lines : List SourceLine) → done e lines ≡ machine.done e lines
-done_same e lines =
-    ap (λ a. record (idle e) { place = a.place; memory = a.state.memory; source = e.source + length lines; taken = a.state.taken }) (all_same e lines)
-
 pub done-idle : (e : RoffEdge) (lines : List SourceLine) → done e lines ≡ idle (lines_done e lines)
 done-idle e lines =
+    let a = all_same e lines in
     let s = all_stands e lines in
-    done_same e lines ∙ same_edge (machine.done e lines) (lines_done e lines) (sym (lines_done-output e lines)) s.place s.memory (sym (lines_done-source e lines)) s.taken
+    same_edge (done e lines) (lines_done e lines) (sym (lines_done-output e lines)) (ap (λ a. a.place) a ∙ s.place) (ap (λ a. a.state.memory) a ∙ s.memory)
+    (sym (lines_done-source e lines)) (ap (λ a. a.state.taken) a ∙ s.taken)
 
 lines_done-to_come : (e : RoffEdge) (lines : List SourceLine) → e.to_come ≡ None → (lines_done e lines).to_come ≡ None
 unfolding lines_done

@@ -4,7 +4,6 @@ ghost use Rattle.std.specs.Prelude.{◌≡◌, ◌≤◌, ◌+◌, ◌*◌, List
 ghost use Rattle.page_core_base.specs.declared.limits.TheConstants.{EXPAND, REREAD};
 ghost use Rattle.page_roff_source.specs.Runs.{RoffEdge, SourceLine, given, done};
 ghost use Rattle.page_roff_source.specs.laws.Views.{line_count, EachIsWithin};
-ghost use Rattle.page_roff_source.specs.machine.Given as machine;
 ghost use Rattle.page_roff_source.specs.machine.LineByLine.{lines_given, lines_done};
 
 /// What the forest of all lines gives, inside what is open, is what the lines give one after another: each the messages in front of it and then its own,
@@ -43,10 +42,4 @@ pub fn count_law()
 pub fn room_law()
     ensures { (e : RoffEdge) (line : SourceLine) → (done e (line ∷ [])).place.levels.skipped
         ≤ e.place.levels.skipped + (2 * length line.text + 2) }
-{}
-
-/// What the machine's own text of a run gives, by what the parts of a source do, is what the definitions say.
-pub fn machine_law()
-    ensures given { (e : RoffEdge) (lines : List SourceLine) → given e lines ≡ machine.given e lines }
-    ensures edge { (e : RoffEdge) (lines : List SourceLine) → done e lines ≡ machine.done e lines }
 {}

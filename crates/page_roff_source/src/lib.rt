@@ -9,8 +9,7 @@
 //! lines of UTF-8; after a fault of the sink and after the end the answer is `Failed`. `Roff::part`, `Roff::from_part`: roff's part of what is
 //! held between two lines (`specs/laws/Views.antt`), and roff that goes on from it. `caps_law`: what is held, and what runs, is within its limits
 //! (`specs/laws/Views.antt`). `forest_law`, `cut_law`, `count_law`, `room_law`: the forest of all lines gives what the lines give one after another
-//! (`specs/Runs.antt`); a line takes at most 1,001 lines, with at most 1,000 interpolations for each. `machine_law`: the run by which the machine is
-//! proved (`specs/machine/Given.antt`) is that of the definitions.
+//! (`specs/Runs.antt`); a line takes at most 1,001 lines, with at most 1,000 interpolations for each.
 //! `texts_law`: where each line of a page is UTF-8 of at most 65,536 bytes without a control character but the tab, so is each line that roff gives of
 //! it, and each string, argument and line of a macro, whatever is defined, appended, cut or passed (`specs/machine/Texts.antt`).
 #![tactic(auto)]
@@ -23,7 +22,7 @@ mod roffs;
 mod text_laws;
 
 pub use counts::Counts;
-pub use laws::{count_law, cut_law, forest_law, machine_law, room_law};
+pub use laws::{count_law, cut_law, forest_law, room_law};
 pub use parts::RoffPart;
 pub use roff_lines::RoffLines;
 pub use roffs::Roff;

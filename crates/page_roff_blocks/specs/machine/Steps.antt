@@ -1,4 +1,4 @@
--- A machine: the parts of a source, one after another. That this is what the definitions say of its forest is the law `machine_law` of `page_roff_source`; trust needs no
+-- A machine: the parts of a source, one after another. That this is what the definitions say of its forest is the law `forest_law` of `page_roff_source`; trust needs no
 -- reading of it. Source: roff(7), "if", "while", "de", "ig".
 use Rattle.std.specs.Prelude.{ℕ, Bool, true, false, List, [], ◌∷◌, length, Option, Some, None}
 use Rattle.page_roff_heads.specs.declared.loops.LoopHead.{LoopHead}

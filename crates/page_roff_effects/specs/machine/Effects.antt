@@ -1,5 +1,5 @@
 -- A machine: the parts of a source as effects on what is remembered and given. That a source does by them what the definitions say is the law
--- `machine_law` of `page_roff_source`; trust needs no reading of it.
+-- `forest_law` of `page_roff_source`; trust needs no reading of it.
 use Rattle.std.specs.Prelude.{ℕ, Bool, List, ◌++◌}
 use Rattle.page_roff_heads.specs.Conditions.{condition_of}
 use Rattle.page_roff_values.specs.Values.{arguments_in, lines_in}

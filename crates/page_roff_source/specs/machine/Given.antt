@@ -1,13 +1,13 @@
--- A machine: what roff gives of a list of lines, by what the parts of a source do. That it is what the definitions say is the law `machine_law`; trust needs no
--- reading of it.
-use Rattle.std.specs.Prelude.{◌+◌, false, List, [], ◌++◌, length, map, None}
+-- A machine: the lines of a page one after another, by what the parts of a source do. That they give what the forest of all lines gives is the law `forest_law`;
+-- trust needs no reading of it.
+use Rattle.std.specs.Prelude.{◌+◌, false, List, [], ◌++◌, map}
 use Rattle.page_roff_blocks.specs.machine.Run.{At}
 use Rattle.page_roff_values.specs.Values.{units_of}
 use Rattle.page_roff_blocks.specs.machine.Budgets.{Budgeted, language}
 use Rattle.page_roff_blocks.specs.machine.Languages.{run_page_lines}
 use Rattle.page_roff_effects.specs.machine.Effects.{effects}
 use Rattle.page_roff_effects.specs.laws.Views.{State}
-use Rattle.page_roff_effects.specs.States.{Given, says, numbered}
+use Rattle.page_roff_effects.specs.States.{says, numbered}
 use Rattle.page_roff_source.specs.Runs.{RoffEdge, SourceLine}
 
 -- What comes before a line: messages are about its number from now on, and those in front of it are given.
@@ -25,18 +25,3 @@ before_lines e = record {
 -- the forest of all lines, inside what is open
 unfoldable pub run_all : RoffEdge → List SourceLine → At (Budgeted State)
 run_all e lines = run_page_lines (language (effects (units_of e.output))) (λ line. line.text) head_of lines (before_lines e)
-
--- what it gives: messages, and lines for the set of macros, in their order
-abbrev pub given : RoffEdge → List SourceLine → List Given
-given e lines = (run_all e lines).state.rest.out
-
--- where it leaves the page
-abbrev pub done : RoffEdge → List SourceLine → RoffEdge
-done e lines = let a = run_all e lines in record {
-  output = e.output;
-  place = a.place;
-  memory = a.state.rest.memory;
-  source = e.source + length lines;
-  taken = a.state.taken;
-  to_come = None;
-}
