@@ -84,7 +84,7 @@ each e lines a = each_line (meaning_at (language (effects (units_of e.output))) 
 -- line after line
 each_stands : (e : RoffEdge) (xs : List SourceLine) (left : ℕ) (g : Bool) (out : List Given)
     → StandsAt (lines_done e xs) (out ++ lines_given e xs) (each e xs (at e.place left g e.taken e.memory out))
-unfolding each_line lines_given lines_done run_page
+unfolding each_line lines_given lines_done run_page step step_lines
 each_stands e [] left g out = record { place = refl; memory = refl; taken = refl; out = sym (append-nil out) }
 each_stands e (x ∷ xs) left g out =
     let r = run_line e x in

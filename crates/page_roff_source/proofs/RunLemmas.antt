@@ -262,7 +262,7 @@ module _ {X : Type 0} (text : X → List ℕ) (start : X → State → State) (h
 
   parts_law : (parts : List (LinePart (List ℕ))) (xs : List X) (c : BlockCursor) (b : Old)
       → run_source a text start (line_of parts (source_of text xs) (inside_of text xs)) (spot c b) ≡ from xs (step_parts m parts c b)
-  unfolding line_of step_parts run_from run run_source steps.step_region
+  unfolding line_of step_parts run_from run run_source steps.step_region opened
   parts_law [] xs c b = steady xs (spot c b)
   parts_law (Leaf t ∷ rest) xs c b =
       let src = line_of rest (source_of text xs) (inside_of text xs) in
