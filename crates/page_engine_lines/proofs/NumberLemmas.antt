@@ -8,14 +8,14 @@ use Rattle.page_roff_syntax.specs.declared.line_forms.LineForm.{LineForm}
 use Rattle.page_roff_syntax.specs.declared.line_forms.LineForm.TheVariants.{Control}
 use Rattle.page_roff_blocks.specs.Parts.{line_parts, loop_text}
 use Rattle.page_roff_syntax.specs.Regions.{Opened}
-use Rattle.page_roff_values.specs.Values.{lines_in, expanded, units_of}
+use Rattle.page_roff_values.specs.Values.{expanded, units_of}
 use Rattle.page_roff_blocks.specs.machine.Languages.{Kind}
 use Rattle.page_roff_blocks.proofs.KeepLemmas.{IsIfSome, IsAny, HasLeaves, HasLoopTexts, any_leaves, any_lines}
 use Rattle.page_roff_blocks.proofs.KeepEffects.{IsKeptAfter, KeepsEffects, page_keeps}
 use Rattle.page_roff_effects.specs.Lines.{command_of, copies, ControlLine, command_outcome, control_line, control_outcome, form_outcome, leaf_outcome}
 use Rattle.page_roff_effects.specs.States.{Memory, PartOutcome, Product, no_product, line_product, call_product, loop_product, counted, TextSetting, surroundings, nothing, budget_outcome, block_outcome, end_of_block_outcome}
 use Rattle.page_roff_effects.specs.laws.Views.{State, after}
-use Rattle.page_roff_effects.specs.Regions.{body_outcome, kind_outcome, line_outcome, close_outcome, body_in}
+use Rattle.page_roff_effects.specs.Regions.{body_outcome, kind_outcome, line_outcome, close_outcome}
 use Rattle.page_roff_effects.specs.machine.Effects.{effects, setting_of, tested_after, done_by, done_after}
 use Rattle.page_roff_effects.proofs.CountLemmas.{does_keeps, longer_keeps, head_keeps, end_keeps, finish_keeps, loop_keeps, collect_keeps, close_keeps}
 use Rattle.page_roff_source.specs.Runs.{RoffEdge, SourceLine, done}
@@ -78,8 +78,8 @@ module _ (units : List ℕ → ℕ) (n : ℕ) where
   unfolding done_by any_kind
   done_number no_product s h = h
   done_number (line_product line) s h = h
-  done_number (call_product call) s h = (any_lines (lines_in call.body), tt, h)
-  done_number (loop_product text) s h = (tt, any_lines (body_in text), h)
+  done_number (call_product lines arguments) s h = (any_lines lines, tt, h)
+  done_number (loop_product condition lines) s h = (tt, any_lines lines, h)
 
   keeps_number : KeepsEffects IsAny any_kind (IsAt n) (effects units)
   unfolding effects done_after tested_after budget_outcome block_outcome end_of_block_outcome any_kind

@@ -57,12 +57,7 @@ without_quote (byte ∷ bytes) = if byte == 34 then bytes else byte ∷ bytes
 abbrev pub value_after : ℕ → List ℕ → Argument (List ℕ) → List ℕ
 value_after column rest name = without_quote (after_blanks (drop (end_of column name) rest))
 
--- ---- A call of a macro: the body that it runs, line by line, and its arguments, packed. Source: roff(7), "MACRO SYNTAX" and "de".
-
--- a macro that is called: the lines of its body, and its arguments, each with a line feed after it
-pub record MacroCall : Type 0 where
-  pub body : List ℕ
-  pub packed : List ℕ
+-- ---- The body that a macro runs, line by line, and the arguments of its call, packed. Source: roff(7), "MACRO SYNTAX" and "de".
 
 -- a body with one line more, which ends in a line feed (10)
 abbrev pub with_line : List ℕ → List ℕ → List ℕ

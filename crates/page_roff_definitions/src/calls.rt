@@ -100,7 +100,7 @@ impl Model for CallBuffer {
     ghost use Rattle.std.specs.Prelude.{◌≤◌, ◌+◌};
     ghost use Rattle.std.specs.Vec.{vec_capacity};
     ghost use Rattle.page_core_base.specs.declared.limits.TheConstants.{ARGS, LINE};
-    ghost use Rattle.page_roff_definitions.specs.Definitions.{MacroCall};
+    ghost use Rattle.page_roff_definitions.specs.machine.Buffers.{MacroCall};
 
     ghost Value = { MacroCall };
 

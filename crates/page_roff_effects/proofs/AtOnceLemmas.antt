@@ -1,9 +1,10 @@
 -- Free lines are taken as they are written: helpers of proofs.
 use Rattle.std.proofs.Common.{◌≡◌, ℕ, ◌+◌, ◌-◌, ◌≤◌, ◌==◌, nat_le, Bool, true, false, List, [], ◌∷◌, length, take, drop, Option, None, Some, is_some, unwrap_or, if◌then◌else◌, inl, inr, refl, sym, ap, ap₂, ◌∙◌, arith}
 use Rattle.std.proofs.lemmas.Bool.{cases_Bool}
+use Rattle.std.proofs.lemmas.Bool.Decides.{nat_tests}
 use Rattle.std.proofs.lemmas.List.{length-take-le}
 use Rattle.std.proofs.lemmas.List.Sums.{prefix_len-le-length}
-use Rattle.page_core_base.specs.declared.limits.TheConstants.{ARGS, LINE}
+use Rattle.page_core_base.specs.declared.limits.TheConstants.{ARGS, BODY, LINE}
 use Rattle.page_core_base.specs.declared.lines_taken.Form.TheVariants as forms
 use Rattle.page_roff_syntax.specs.Arguments.{arguments}
 use Rattle.page_roff_syntax.specs.LineForms.{control_line, form_of, has_word, is_control, is_name, name_len, name_start, uncommented_form, without_comment}
@@ -16,19 +17,17 @@ use Rattle.page_roff_blocks.specs.Parts.{line_parts}
 use Rattle.page_roff_blocks.specs.declared.line_parts.LinePart.TheVariants.{Leaf}
 use Rattle.page_roff_blocks.proofs.LinePartLemmas.{one_leaf, plain_named, plain_nameless}
 use Rattle.page_roff_values.specs.machine.Verbatim.{GivesItself}
-use Rattle.page_roff_names.specs.Names.{Definitions}
+use Rattle.page_roff_names.specs.Names.{Definitions, body_of}
 use Rattle.page_roff_definitions.specs.Definitions.{closings_notes, packed}
-use Rattle.page_roff_definitions.specs.Definitions as made
-use Rattle.page_roff_definitions.specs.machine.Buffers.{Packs}
+use Rattle.page_roff_definitions.specs.machine.Buffers.{MacroCall, Packs}
+use Rattle.page_roff_values.specs.Values.{arguments_in, lines_in}
 use Rattle.page_roff_effects.specs.declared.at_once.AtOnce.{AtOnce}
 use Rattle.page_roff_effects.specs.declared.at_once.AtOnce.TheVariants as ways
 use Rattle.page_roff_effects.specs.declared.commands.Command.TheVariants.{Call, Pass}
-use Rattle.page_roff_effects.specs.declared.commands.ProductKind.TheVariants as kinds
-use Rattle.page_roff_effects.specs.machine.Acting.{Acting, measured, plain_form, CallsIf, IsOrdinary, IsQuiet, TakesIf}
+use Rattle.page_roff_effects.specs.machine.Acting.{Acting, measured, plain_form, CallsIf, IsCallable, IsOrdinary, IsQuiet, TakesIf}
 use Rattle.page_core_base.specs.laws.Views.{IsFreeLine}
-use Rattle.page_roff_effects.specs.Lines.{called_body, command_of, command_or, request_command, ControlLine, calls, control_outcome, command_outcome, does, leaf_outcome, rest_column, rest_of, text_outcome}
+use Rattle.page_roff_effects.specs.Lines.{called_body, command_of, command_or, request_command, ControlLine, calls, control_outcome, command_outcome, does, leaf_outcome, rest_column, rest_of, text_outcome, within_limit}
 use Rattle.page_roff_effects.specs.States.{Memory, PartOutcome, TextSetting, call_product, gives_line, surroundings}
-use Rattle.page_roff_effects.proofs.CallLemmas.{leaf_callable}
 use Rattle.page_roff_effects.proofs.FreeLemmas.{free_itself, uncommented, unended}
 use Rattle.page_roff_effects.proofs.PlainLemmas.{counted_none}
 
@@ -69,20 +68,20 @@ unfolding control_outcome command_outcome
 control_taken setting may_call line m n p g =
     rw (n, p, g (surroundings false setting m) m.number refl) (ap (λ m. gives_line forms.Control line.text line.name_end m) (counted_none m))
 
-abbrev gives_call : made.MacroCall → Memory → PartOutcome
-gives_call call m = record { notes = []; product = call_product call; memory = m }
+abbrev gives_call : MacroCall → Memory → PartOutcome
+gives_call call m = record { notes = []; product = call_product (lines_in call.body) (arguments_in call.packed); memory = m }
 
 calls_closed : (column : ℕ) (body : List ℕ) (args : List (Argument (List ℕ))) (m : Memory) → closings_notes m.number args ≡ [] → nat_le (length (packed args)) ARGS ≡ true
-    → calls true column body args m ≡ (let call : made.MacroCall = record { body = body; packed = packed args } in gives_call call m)
+    → calls true column body args m ≡ (let call : MacroCall = record { body = body; packed = packed args } in gives_call call m)
 calls_closed column body args m c f = rw (c, f) refl
 
-quiet_call : (line : ControlLine) (text : List ℕ) (m : Memory) (call : made.MacroCall) → IsQuiet line.name (rest_of line text) (rest_column line) m call
+quiet_call : (line : ControlLine) (text : List ℕ) (m : Memory) (call : MacroCall) → IsQuiet line.name (rest_of line text) (rest_column line) m call
     → does true Call line text m ≡ gives_call call m
 quiet_call line text m call q =
     calls_closed line.column (unwrap_or (called_body line.name m.definitions) []) (arguments (rest_column line) (rest_of line text)) m q.closed q.fits
-    ∙ ap₂ (λ (body bytes : List ℕ). let made : made.MacroCall = record { body = body; packed = bytes } in gives_call made m) (sym q.body) (sym q.packs)
+    ∙ ap₂ (λ (body bytes : List ℕ). let made : MacroCall = record { body = body; packed = bytes } in gives_call made m) (sym q.body) (sym q.packs)
 
-control_called : (setting : TextSetting) (line : ControlLine) (m : Memory) (call : made.MacroCall) → (length line.name == 0) ≡ false → command_of line.name m.definitions ≡ Call
+control_called : (setting : TextSetting) (line : ControlLine) (m : Memory) (call : MacroCall) → (length line.name == 0) ≡ false → command_of line.name m.definitions ≡ Call
     → GivesItself line.text → IsQuiet line.name (rest_of line line.text) (rest_column line) m call → control_outcome setting true line m ≡ gives_call call m
 unfolding control_outcome command_outcome
 control_called setting line m call n p g q =
@@ -137,7 +136,7 @@ rest_after line name = drop (1 + name_start (drop 1 line) + length name) line
 abbrev column_after : List ℕ → List ℕ → ℕ
 column_after line name = 1 + name_start (drop 1 line) + length name + 1
 
-free_call : (setting : TextSetting) (line name : List ℕ) (m : Memory) (call : made.MacroCall) → IsFreeLine line → length line ≤ LINE → name_of (form_of line) ≡ Some name
+free_call : (setting : TextSetting) (line name : List ℕ) (m : Memory) (call : MacroCall) → IsFreeLine line → length line ≤ LINE → name_of (form_of line) ≡ Some name
     → (length name == 0) ≡ false → command_of name m.definitions ≡ Call → IsQuiet name (rest_after line name) (column_after line name) m call
     → leaf_outcome setting true line m ≡ gives_call call m
 unfolding leaf_outcome
@@ -174,13 +173,24 @@ free_named line name h e o = one_leaf line (plain_named line name e o.1) (unende
 
 -- ---- calls
 
-pub packs_call : (name rest : List ℕ) (column : ℕ) (m : Memory) (call : made.MacroCall) (fits is_closed : Bool) → fits ≡ true → is_closed ≡ true
+pub packs_call : (name rest : List ℕ) (column : ℕ) (m : Memory) (call : MacroCall) (fits is_closed : Bool) → fits ≡ true → is_closed ≡ true
     → Packs (packed (arguments column rest)) fits call.packed
     → (is_closed ≡ true → (line : ℕ) → closings_notes line (arguments column rest) ≡ [])
     → call.body ≡ unwrap_or (called_body name m.definitions) [] → IsQuiet name rest column m call
 packs_call name rest column m call fits is_closed f c p q b =
     let within : Packs (packed (arguments column rest)) true call.packed = rw f at p in
     record { body = b; packs = within.1; fits = sym within.0; closed = q c m.number }
+
+body_short : (body : Option (List ℕ)) → length (unwrap_or (within_limit body) []) ≤ BODY
+body_short None = omega arith
+body_short (Some body) = grind (arith, nat_tests)
+
+call_fits : (name rest : List ℕ) (column : ℕ) (m : Memory) (call : MacroCall) → IsQuiet name rest column m call → IsCallable true call
+call_fits name rest column m call q = record {
+  room = refl;
+  body = rw q.body (body_short (body_of name m.definitions));
+  packed = rw q.packs (grind (arith, nat_tests, q.fits));
+}
 
 pub takes_call : (result : AtOnce) (raw name : List ℕ) (old new : Acting) → IsFreeLine raw → length raw ≤ LINE → name_of (form_of raw) ≡ Some name
     → (length name == 0) ≡ false → IsOrdinary name → is_some (called_body name old.memory.definitions) ≡ true
@@ -189,10 +199,9 @@ pub takes_call : (result : AtOnce) (raw name : List ℕ) (old new : Acting) → 
 takes_call ways.Nothing raw name old new h short e n o s c = c
 takes_call (ways.Line taken) raw name old new h short e n o s c = absurd c
 takes_call ways.Call raw name old new h short e n o s c =
-    let given = free_call (measured old.setting) raw name old.memory new.call h short e n (is_call name old.memory.definitions s) c.1 in
     record {
       leaf = free_named raw name h e o;
       left = c.0;
-      given = given;
-      fits = leaf_callable (measured old.setting) true raw old.memory kinds.Call new (rw given refl) (rw given refl);
+      given = free_call (measured old.setting) raw name old.memory new.call h short e n (is_call name old.memory.definitions s) c.1;
+      fits = call_fits name (rest_after raw name) (column_after raw name) old.memory new.call c.1;
     }

@@ -1,43 +1,31 @@
 -- A call that a line gives is within its limits: helpers of proofs.
-use Rattle.std.proofs.Common.{◌≡◌, ℕ, ◌≤◌, nat_le, Bool, true, false, ◌==◌, ◌&&◌, List, [], length, Option, Some, None, unwrap_or, refl, if◌then◌else◌, arith}
-use Rattle.std.proofs.lemmas.Bool.Decides.{nat_tests}
-use Rattle.page_core_base.specs.declared.limits.TheConstants.{ARGS, BODY}
+use Rattle.std.proofs.Common.{◌≡◌, ℕ, Bool, true, false, ◌==◌, ◌&&◌, List, length, refl, if◌then◌else◌}
 use Rattle.page_roff_syntax.specs.LineForms.{form_of}
 use Rattle.page_roff_syntax.specs.declared.line_forms.LineForm.{LineForm}
 use Rattle.page_roff_syntax.specs.declared.line_forms.LineForm.TheVariants.{Control}
-use Rattle.page_roff_names.specs.Names.{body_of}
 use Rattle.page_roff_effects.specs.declared.commands.Command.{Command}
 use Rattle.page_roff_effects.specs.declared.commands.Command.TheVariants.{Call}
 use Rattle.page_roff_effects.specs.declared.commands.ProductKind.{ProductKind}
 use Rattle.page_roff_effects.specs.machine.Acting.{Acting, kind_of, Lends, IsCallable, IfCalled}
-use Rattle.page_roff_effects.specs.Lines.{within_limit, command_of, ControlLine, call_if, does, command_outcome, control_outcome, control_line, form_outcome, leaf_outcome}
+use Rattle.page_roff_effects.specs.Lines.{command_of, ControlLine, call_if, does, command_outcome, control_outcome, control_line, form_outcome, leaf_outcome}
 use Rattle.page_roff_effects.specs.States.{Memory, PartOutcome, Product, no_product, line_product, call_product, loop_product, TextSetting, nothing}
 
 IsWithin : Bool → Product → Type 0
 IsWithin may_call no_product = Unit {0}
 IsWithin may_call (line_product line) = Unit {0}
-IsWithin may_call (call_product call) = IsCallable may_call call
-IsWithin may_call (loop_product text) = ⊥
+IsWithin may_call (call_product lines arguments) = may_call ≡ true
+IsWithin may_call (loop_product condition lines) = ⊥
 
-within_by : (fits : Bool) (body : List ℕ) → nat_le (length body) BODY ≡ fits → length (unwrap_or (if fits then Some body else None) []) ≤ BODY
-within_by true body e = grind (arith, nat_tests)
-within_by false body e = omega arith
-
-body_short : (body : Option (List ℕ)) → length (unwrap_or (within_limit body) []) ≤ BODY
-body_short None = omega arith
-body_short (Some body) = within_by (nat_le (length body) BODY) body refl
-
-call_if_within : (may_call fits : Bool) (body bytes : List ℕ) (m : Memory)
-    → nat_le (length bytes) ARGS ≡ fits → length body ≤ BODY → IsWithin may_call (call_if (may_call && fits) body bytes m).product
+call_if_within : (may_call fits : Bool) (body bytes : List ℕ) (m : Memory) → IsWithin may_call (call_if (may_call && fits) body bytes m).product
 unfolding IsWithin
-call_if_within true true body bytes m e h = record { room = refl; body = h; packed = grind (arith, nat_tests) }
-call_if_within true false body bytes m e h = tt
-call_if_within false fits body bytes m e h = tt
+call_if_within true true body bytes m = refl
+call_if_within true false body bytes m = tt
+call_if_within false fits body bytes m = tt
 
 does_within : (may_call : Bool) (command : Command) (line : ControlLine) (text : List ℕ) (m : Memory)
     → IsWithin may_call (does may_call command line text m).product
 unfolding IsWithin
-does_within may_call Call line text m = call_if_within may_call _ _ _ m refl (body_short (body_of line.name m.definitions))
+does_within may_call Call line text m = call_if_within may_call _ _ _ m
 does_within may_call _ line text m = tt
 
 command_within : (setting : TextSetting) (may_call : Bool) (command : Command) (line : ControlLine) (m : Memory)
@@ -74,8 +62,8 @@ if_called : (p : Product) (may_call : Bool) (a : Acting) → Lends p a → IsWit
 unfolding IsWithin
 if_called no_product may_call a lends within = tt
 if_called (line_product line) may_call a lends within = tt
-if_called (call_product call) may_call a lends within = rw lends within
-if_called (loop_product text) may_call a lends within = within
+if_called (call_product lines arguments) may_call a lends within = record { room = within; body = lends.body; packed = lends.packed }
+if_called (loop_product condition lines) may_call a lends within = within
 
 -- what is lent as a call can be called
 pub leaf_callable : (setting : TextSetting) (may_call : Bool) (raw : List ℕ) (m : Memory) (result : ProductKind) (a : Acting)

@@ -15,7 +15,7 @@ use Rattle.page_roff_syntax.specs.declared.quotes.Argument.{Argument}
 use Rattle.page_roff_syntax.specs.declared.requests.Request.{Request}
 use Rattle.page_roff_syntax.specs.declared.requests.Request.TheVariants as requests
 use Rattle.page_roff_names.specs.Names.{Definitions, body_of}
-use Rattle.page_roff_values.specs.Values.{LaidText, expanded}
+use Rattle.page_roff_values.specs.Values.{LaidText, arguments_in, expanded, lines_in}
 use Rattle.page_roff_definitions.specs.Definitions.{is_in_copy_mode, DefinitionOutcome, packed, closings_notes, outcome_of}
 use Rattle.page_roff_effects.specs.States.{Memory, call_product, nothing, after_notes, at, reports, reports_at, gives_line, counted, TextSetting, surroundings}
 use Rattle.page_roff_effects.specs.States as states
@@ -68,7 +68,7 @@ size_notes true place = []
 size_notes false place = message_about kinds.Limit place (name_of limits.Args) ∷ []
 
 abbrev pub call_if : Bool → List ℕ → List ℕ → Memory → states.PartOutcome
-call_if true body bytes m = record { notes = []; product = call_product (record { body = body; packed = bytes }); memory = m }
+call_if true body bytes m = record { notes = []; product = call_product (lines_in body) (arguments_in bytes); memory = m }
 call_if false body bytes m = nothing m
 
 -- The call of a macro, whose name is in a column. Arguments without their last quote are reported first. One beyond a limit is skipped, with a message

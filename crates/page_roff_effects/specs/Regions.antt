@@ -141,9 +141,20 @@ collect_outcome false line m = nothing m
 
 -- ---- the end
 
+-- the first line that was collected is the condition, and the others are run in each turn
+abbrev pub first_line : List (List ℕ) → List ℕ
+first_line [] = []
+first_line (line ∷ lines) = line
+
+abbrev pub condition_in : List ℕ → List ℕ
+condition_in text = first_line (lines_in text)
+
+abbrev pub body_in : List ℕ → List (List ℕ)
+body_in text = drop 1 (lines_in text)
+
 -- a loop beyond the limit of running macros and loops is skipped
 abbrev pub repeats_if : Bool → List ℕ → Memory → PartOutcome
-repeats_if true text m = record { notes = []; product = loop_product text; memory = m }
+repeats_if true text m = record { notes = []; product = loop_product (condition_in text) (body_in text); memory = m }
 repeats_if false text m = reports_at kinds.Loop 1 (name_of limits.Calls) m
 
 -- one that passed the limit of bodies has none, and is not run
@@ -155,16 +166,3 @@ repeats_text may_call (Some text) m = repeats_if may_call text m
 unfoldable pub close_outcome : Bool → Bool → Memory → PartOutcome
 close_outcome true may_call m = repeats_text may_call m.body (with_body None m)
 close_outcome false may_call m = nothing (with_body None m)
-
--- ---- its turns
-
--- the first line that was collected is the condition, and the others are run in each turn
-abbrev pub first_line : List (List ℕ) → List ℕ
-first_line [] = []
-first_line (line ∷ lines) = line
-
-abbrev pub condition_in : List ℕ → List ℕ
-condition_in text = first_line (lines_in text)
-
-abbrev pub body_in : List ℕ → List (List ℕ)
-body_in text = drop 1 (lines_in text)

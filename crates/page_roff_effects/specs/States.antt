@@ -12,7 +12,6 @@ use Rattle.page_roff_names.specs.Names.{Definitions, definitions}
 use Rattle.page_roff_heads.specs.declared.conditions.Condition.{Condition}
 use Rattle.page_roff_values.specs.Answers.{Answer, condition_answer}
 use Rattle.page_roff_values.specs.Values.{Surroundings}
-use Rattle.page_roff_definitions.specs.Definitions.{MacroCall}
 
 -- ---- What the parts of a source change, and what they give. Source: roff(7), "LANGUAGE SYNTAX", "ds", "de".
 
@@ -36,9 +35,10 @@ numbered number m = record m { number = number }
 pub data Product : Type 0 where
   no_product : Product
   line_product : TakenLine → Product
-  call_product : MacroCall → Product
-  -- a loop that is whole: its condition and the lines of its body, each with a line feed after it
-  loop_product : List ℕ → Product
+  -- a macro is called: the lines of its body, and its arguments
+  call_product : List (List ℕ) → List (List ℕ) → Product
+  -- a loop is whole: its condition, and the lines of its body
+  loop_product : List ℕ → List (List ℕ) → Product
 
 -- what a part of a source does: its messages, then what comes of it, and what is remembered after it
 pub record PartOutcome : Type 0 where

@@ -21,7 +21,7 @@ use Rattle.page_roff_blocks.specs.machine.Measures.{AreOnLine, HasMeasure, IsFir
 use Rattle.page_roff_effects.specs.machine.Acting.{with_number, with_arguments, acting_effects, acting_setting, measured, ActingSetting}
 use Rattle.page_roff_effects.specs.machine.Effects.{effects, done_after, done_by}
 use Rattle.page_roff_effects.specs.Lines.{leaf_outcome}
-use Rattle.page_roff_definitions.specs.Definitions.{MacroCall}
+use Rattle.page_roff_definitions.specs.machine.Buffers.{MacroCall}
 use Rattle.page_roff_values.specs.Values.{arguments_in, lines_in}
 use Rattle.page_roff_effects.specs.States.{Memory, PartOutcome, Given, takes, call_product, line_product, numbered}
 use Rattle.page_roff_effects.specs.laws.Views.{State}
@@ -111,7 +111,7 @@ run_leaf output line bit outer m count taken ea eo =
 -- ---- the run of one that calls a macro
 
 abbrev gives_call : MacroCall → Memory → PartOutcome
-gives_call call m = record { notes = []; product = call_product call; memory = m }
+gives_call call m = record { notes = []; product = call_product (lines_in call.body) (arguments_in call.packed); memory = m }
 
 abbrev in_call : MacroCall → BlockCursor → Budgeted State → Running (Budgeted State)
 in_call call cursor s = record { top = entered (lines_in call.body) (arguments_in call.packed); under = frame_at [] cursor ∷ []; state = s }

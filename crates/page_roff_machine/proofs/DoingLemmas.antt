@@ -1,5 +1,5 @@
 -- What the parts of sources do under the budget, call by call: helpers of proofs.
-use Rattle.std.proofs.Common.{◌≡◌, ℕ, zero, suc, Bool, true, false, not, ◌&&◌, nat_le, List, [], ◌∷◌, ◌++◌, length, map, Option, Some, None, refl, sym, ap, ◌∙◌, append_assoc}
+use Rattle.std.proofs.Common.{◌≡◌, ℕ, zero, suc, Bool, true, false, not, ◌&&◌, nat_le, List, [], ◌∷◌, ◌++◌, length, map, Option, Some, None, refl, sym, ap, ap₂, ◌∙◌, append_assoc}
 use Rattle.std.proofs.lemmas.List.{append-nil, map-append}
 use Rattle.page_core_base.specs.Messages.{Message}
 use Rattle.page_core_base.specs.declared.page_settings.Output.{Output}
@@ -14,7 +14,6 @@ use Rattle.page_roff_blocks.specs.declared.block_cursors.Reached.TheVariants.{Pa
 use Rattle.page_roff_syntax.specs.Regions.{Opened}
 use Rattle.page_roff_blocks.specs.Parts.{loop_text}
 use Rattle.page_roff_blocks.specs.machine.Run.{meet_as, value, keep_if}
-use Rattle.page_roff_values.specs.Values.{arguments_in, lines_in}
 use Rattle.page_core_base.specs.laws.Views.{Came}
 use Rattle.page_roff_blocks.specs.machine.Languages.{Kind, page, body, gives, calls, repeats}
 use Rattle.page_roff_blocks.specs.machine.Budgets.{Budgeted, Effects, with_rest, charge_by, charge, begin_line, whether_run, meet, test, unopened_by, read_line, end_line, collect_some, meaning, done_with, closed_with, turn_by, turn, language}
@@ -26,8 +25,8 @@ use Rattle.page_roff_effects.specs.machine.Acting.{Acting, kind_of, Lends, IfRep
 use Rattle.page_roff_effects.specs.States.{answer_of, test_outcome, budget_outcome, end_of_block_outcome, TextSetting, Memory, PartOutcome, Product, no_product, line_product, call_product, loop_product, Given, says, takes, lines_of}
 use Rattle.page_roff_effects.specs.machine.Effects.{effects, turn_answer, tested_after, done_by, done_after}
 use Rattle.page_roff_effects.specs.Lines.{leaf_outcome}
-use Rattle.page_roff_effects.specs.Regions.{longer_if_some, loop_outcome, collect_outcome, close_outcome, condition_in, body_in, head_outcome, longer_if, longer, line_outcome, end_outcome, finish_region, finish_outcome}
-use Rattle.page_roff_definitions.specs.Definitions.{MacroCall, with_line}
+use Rattle.page_roff_effects.specs.Regions.{longer_if_some, loop_outcome, collect_outcome, close_outcome, head_outcome, longer_if, longer, line_outcome, end_outcome, finish_region, finish_outcome}
+use Rattle.page_roff_definitions.specs.Definitions.{with_line}
 use Rattle.page_roff_values.specs.Answers.{Answer}
 use Rattle.page_roff_effects.specs.laws.Views.{State, after}
 use Rattle.page_roff_stack.specs.machine.Changes.{is_page}
@@ -239,8 +238,8 @@ passed_nothing setting o false line m e = refl
 lent_line : (p : Product) (a : Acting) → Lends p a → lines_of p ≡ line_of (kind_of p) a
 lent_line no_product a lends = refl
 lent_line (line_product line) a lends = ap (λ line. takes line ∷ []) (sym lends)
-lent_line (call_product call) a lends = refl
-lent_line (loop_product text) a lends = refl
+lent_line (call_product lines arguments) a lends = refl
+lent_line (loop_product condition lines) a lends = refl
 
 -- ---- the heads of conditionals
 
@@ -480,10 +479,10 @@ module _ {P S : Type 0} (left : P → S → List Message → Type 0) where
   loop_done e b s m new given notes no_product result repeated eb em er h lends =
       ap (λ (t : Budgeted State). gives t) (plain_to b m new given notes eb em) ∙ ap (λ product. done_as product new (given ++ map says notes)) (sym er)
   loop_done e b s m new given notes (line_product line) result repeated eb em er h lends = absurd (rw er at h)
-  loop_done e b s m new given notes (call_product call) result repeated eb em er h lends = absurd (rw er at h)
-  loop_done e b s m new given notes (loop_product text) result repeated eb em er h lends =
-      ap (λ (t : Budgeted State). repeats (condition_in text) (body_in text) t) (plain_to b m new given notes eb em)
-      ∙ ap (λ (text : List ℕ). repeats (condition_in text) (body_in text) (state_in (given ++ map says notes) new)) (sym lends)
+  loop_done e b s m new given notes (call_product lines arguments) result repeated eb em er h lends = absurd (rw er at h)
+  loop_done e b s m new given notes (loop_product condition lines) result repeated eb em er h lends =
+      ap (λ (t : Budgeted State). repeats condition lines t) (plain_to b m new given notes eb em)
+      ∙ ap₂ (λ (condition : List ℕ) (lines : List (List ℕ)). repeats condition lines (state_in (given ++ map says notes) new)) (sym lends.0) (sym lends.1)
       ∙ ap (λ product. done_as product new (given ++ map says notes)) (sym er)
 
   pub loop_closed : (old new : BudgetedActions) (out out_new : S) (may_run : Bool) (result : ProductKind) (repeated : Type 0)
@@ -599,13 +598,13 @@ module _ {P S : Type 0} (left : P → S → List Message → Type 0) where
       ∙ ap (λ (t : Budgeted State). gives t) (state_to b m new ((given ++ map says notes) ++ (takes line ∷ [])) eb em)
       ∙ ap (λ line. gives (state_in ((given ++ map says notes) ++ (takes line ∷ [])) new)) (sym lends)
       ∙ ap (λ product. done_as product new (given ++ map says notes)) (sym er)
-  leaf_done e b s m new given notes (call_product call) result eb em er lends =
-      ap (λ (t : Budgeted State). calls (lines_in call.body) (arguments_in call.packed) t) (plain_to b m new given notes eb em)
-      ∙ ap (λ (call : MacroCall). calls (lines_in call.body) (arguments_in call.packed) (state_in (given ++ map says notes) new)) (sym lends)
+  leaf_done e b s m new given notes (call_product lines arguments) result eb em er lends =
+      ap (λ (t : Budgeted State). calls lines arguments t) (plain_to b m new given notes eb em)
+      ∙ ap₂ (λ (lines arguments : List (List ℕ)). calls lines arguments (state_in (given ++ map says notes) new)) (sym lends.runs) (sym lends.passes)
       ∙ ap (λ product. done_as product new (given ++ map says notes)) (sym er)
-  leaf_done e b s m new given notes (loop_product text) result eb em er lends =
-      ap (λ (t : Budgeted State). repeats (condition_in text) (body_in text) t) (plain_to b m new given notes eb em)
-      ∙ ap (λ (text : List ℕ). repeats (condition_in text) (body_in text) (state_in (given ++ map says notes) new)) (sym lends)
+  leaf_done e b s m new given notes (loop_product condition lines) result eb em er lends =
+      ap (λ (t : Budgeted State). repeats condition lines t) (plain_to b m new given notes eb em)
+      ∙ ap₂ (λ (condition : List ℕ) (lines : List (List ℕ)). repeats condition lines (state_in (given ++ map says notes) new)) (sym lends.0) (sym lends.1)
       ∙ ap (λ product. done_as product new (given ++ map says notes)) (sym er)
 
   pub leaf_met : (old mid new : BudgetedActions) (out out_mid out_new : S) (reached : Reached) (may_call : Bool) (text : List ℕ) (result : ProductKind)

@@ -21,7 +21,7 @@ use Rattle.page_roff_syntax.specs.Requests.{request_of}
 use Rattle.page_roff_syntax.specs.declared.requests.Request.{Request}
 use Rattle.page_roff_syntax.specs.declared.requests.Request.TheVariants as requests
 use Rattle.page_roff_values.specs.Values.{Surroundings, expanded, start, NEST}
-use Rattle.page_roff_values.specs.machine.Texts.{IsText, AreArgumentTexts}
+use Rattle.page_roff_values.specs.machine.Texts.{IsText, AreArgumentTexts, AreTexts}
 use Rattle.page_roff_values.specs.machine.Texts as environments
 use Rattle.page_roff_values.proofs.GrowLemmas.{finished_front}
 use Rattle.page_roff_values.proofs.LineLemmas.{value_within}
@@ -30,7 +30,7 @@ use Rattle.page_roff_values.proofs.ValueTexts.{value_text}
 use Rattle.page_roff_blocks.specs.machine.Budgets.{Budgeted, language}
 use Rattle.page_roff_blocks.specs.machine.Languages.{Kind, page, body, arguments_of, inner, run_page}
 use Rattle.page_roff_blocks.proofs.KeepEffects.{IsKeptAfter, KeepsEffects, page_keeps}
-use Rattle.page_roff_blocks.proofs.KeepLemmas.{IsIfSome, IsLoopHead}
+use Rattle.page_roff_blocks.proofs.KeepLemmas.{AreSuch, IsIfSome, IsLoopHead}
 use Rattle.page_roff_effects.specs.Lines.{called_body, request_command, command_or, command_of, copies, call_if, ControlLine, rest_of, rest_column, does, command_outcome, control_outcome, control_line, form_outcome, leaf_outcome}
 use Rattle.page_roff_effects.specs.States.{answer_of, test_outcome, budget_outcome, block_outcome, end_of_block_outcome, Memory, first_memory, TextSetting, surroundings, counted, Product, no_product, line_product, call_product, loop_product, lines_of, Given, says, takes, PartOutcome, nothing}
 use Rattle.page_roff_effects.specs.machine.Effects.{effects, setting_of, turn_answer, tested_after, done_by, done_after}
@@ -75,8 +75,8 @@ finished_rest env l n text k h at =
 IsProduct : Product → Type 0
 IsProduct no_product = Unit {0}
 IsProduct (line_product line) = IsLine line.text
-IsProduct (call_product call) = IsBody call.body × IsPacked call.packed
-IsProduct (loop_product text) = IsBody text
+IsProduct (call_product lines arguments) = AreSuch IsLine lines × AreTexts arguments
+IsProduct (loop_product condition lines) = IsLine condition × AreSuch IsLine lines
 
 record IsOutcome (o : PartOutcome) : Type 0 where
   pub memory : HoldsTexts o.memory
@@ -98,7 +98,7 @@ noted notes o h = record { memory = h.memory; product = h.product }
 
 call_is : (c : Bool) (text bytes : List ℕ) (m : Memory) → IsBody text → IsPacked bytes → HoldsTexts m → IsOutcome (call_if c text bytes m)
 unfolding IsProduct
-call_is true text bytes m b p h = record { memory = h; product = (b, p) }
+call_is true text bytes m b p h = record { memory = h; product = (body_lines text b, packed_texts bytes p) }
 call_is false text bytes m b p h = quiet [] m h
 
 -- ---- lines that head nothing
@@ -166,7 +166,7 @@ collect_is false line m l h = quiet [] m h
 repeats_is : (may_call : Bool) (text : Option (List ℕ)) (m : Memory) → IsBodyIfSome text → HoldsTexts m → IsOutcome (repeats_text may_call text m)
 unfolding IsProduct
 repeats_is may_call None m t h = quiet [] m h
-repeats_is true (Some text) m t h = record { memory = h; product = t }
+repeats_is true (Some text) m t h = record { memory = h; product = (loop_condition text t, loop_lines text t) }
 repeats_is false (Some text) m t h = record { memory = h; product = tt }
 
 close_is : (is_run may_call : Bool) (m : Memory) → HoldsTexts m → IsOutcome (close_outcome is_run may_call m)
@@ -312,8 +312,8 @@ product_given : (p : Product) → IsProduct p → AreGiven (lines_of p)
 unfolding AreGiven IsProduct
 product_given no_product h = tt
 product_given (line_product line) h = (h, tt)
-product_given (call_product call) h = tt
-product_given (loop_product text) h = tt
+product_given (call_product lines arguments) h = tt
+product_given (loop_product condition lines) h = tt
 
 after_is : (s : State) (o : PartOutcome) → HoldsState s → IsOutcome o → HoldsState (after s o)
 after_is s o h k = record {
@@ -334,8 +334,8 @@ kept_by : (p : Product) (s : State) → IsProduct p → HoldsState s → IsKeptA
 unfolding done_by IsProduct
 kept_by no_product s p h = h
 kept_by (line_product line) s p h = h
-kept_by (call_product call) s p h = (body_lines call.body p.0, packed_texts call.packed p.1, h)
-kept_by (loop_product text) s p h = (loop_condition text p, loop_lines text p, h)
+kept_by (call_product lines arguments) s p h = (p.0, p.1, h)
+kept_by (loop_product condition lines) s p h = (p.0, p.1, h)
 
 pub kind_arguments : (kind : Kind) → IsKindText kind → AreArgumentTexts (arguments_of kind)
 kind_arguments page h = tt

@@ -12,11 +12,10 @@ use Rattle.page_roff_blocks.specs.machine.Languages as langs
 use Rattle.page_roff_blocks.specs.machine.Languages.{Kind, page, body, inner, arguments_of, is_some, state_of, Language, TURNS, run_if, finish_at}
 use Rattle.page_roff_blocks.specs.machine.Budgets as budgets
 use Rattle.page_roff_blocks.specs.machine.Budgets.{Effects, language, with_rest, charge, charge_by, done_with, closed_with, turn_by, unopened_by, collect_some}
-use Rattle.page_roff_values.specs.Values.{arguments_in, lines_in}
 use Rattle.page_roff_effects.specs.machine.Effects as effs
 use Rattle.page_roff_effects.specs.States.{end_of_block_outcome, Memory, PartOutcome, Product, no_product, line_product, call_product, loop_product}
 use Rattle.page_roff_effects.specs.machine.Effects.{effects, done_after, setting_of, tested_after}
-use Rattle.page_roff_effects.specs.Regions.{close_outcome, repeats_text, condition_in, body_in, finish_outcome, line_outcome, end_outcome}
+use Rattle.page_roff_effects.specs.Regions.{close_outcome, repeats_text, finish_outcome, line_outcome, end_outcome}
 use Rattle.page_roff_effects.specs.States as states
 use Rattle.page_roff_effects.specs.laws.Views as states_laws
 use Rattle.page_roff_source.specs.Runs.{SourceLine, State, after, spend, reread, page_line, Around, At, gather_some, test, run_product, runs_at}
@@ -62,8 +61,8 @@ module _ (units : List ℕ → ℕ) where
   unfolding done_with effs.done_by
   state_law no_product b r = refl
   state_law (line_product x) b r = refl
-  state_law (call_product c) b r = refl
-  state_law (loop_product t) b r = refl
+  state_law (call_product lines arguments) b r = refl
+  state_law (loop_product condition lines) b r = refl
 
   -- a whole loop calls no macro
   repeats_law : (may : Bool) (t : Option (List ℕ)) (m : Memory) (b : Old)
@@ -179,9 +178,9 @@ module _ (units : List ℕ → ℕ) where
   unfolding run_product langs.done_by done_with effs.done_by inner with_rest
   product_law depth so kind no_product b r = refl
   product_law depth so kind (line_product x) b r = refl
-  product_law depth so kind (call_product c) b r = body_law depth (Some (arguments_in c.packed)) (so (Some (arguments_in c.packed))) (lines_in c.body) (with_rest e b r)
-  product_law depth so page (loop_product t) b r = turns_law depth None (so None) (condition_in t) (body_in t) TURNS (with_rest e b r)
-  product_law depth so (body args) (loop_product t) b r = turns_law depth args (so args) (condition_in t) (body_in t) TURNS (with_rest e b r)
+  product_law depth so kind (call_product lines arguments) b r = body_law depth (Some arguments) (so (Some arguments)) lines (with_rest e b r)
+  product_law depth so page (loop_product condition lines) b r = turns_law depth None (so None) condition lines TURNS (with_rest e b r)
+  product_law depth so (body args) (loop_product condition lines) b r = turns_law depth args (so args) condition lines TURNS (with_rest e b r)
 
   does_law : (depth : ℕ) (kind : Kind) → DoesSo depth kind
   unfolding runs_at langs.done_at after with_rest done_after

@@ -4,11 +4,16 @@ use Rattle.std.specs.Prelude.{◌≡◌, ℕ, Bool, true, false, nat_le, List, [
 use Rattle.page_core_base.specs.Limits.{ARGS, BODY}
 use Rattle.page_core_base.specs.Texts.{TakenLine}
 use Rattle.page_core_base.specs.declared.lines_taken.Form.TheVariants.{Text}
-use Rattle.page_roff_definitions.specs.Definitions.{MacroCall, with_line}
+use Rattle.page_roff_definitions.specs.Definitions.{with_line}
 
 -- before a line and a call were taken
 abbrev pub no_line : TakenLine
 no_line = record { form = Text; text = []; number = 0; name_end = 0 }
+
+-- a macro that is called: the lines of its body, and its arguments, each with a line feed after it
+pub record MacroCall : Type 0 where
+  pub body : List ℕ
+  pub packed : List ℕ
 
 abbrev pub no_call : MacroCall
 no_call = record { body = []; packed = [] }

@@ -13,15 +13,17 @@ use Rattle.page_roff_blocks.specs.Parts.{line_parts, keyword_in, keyword_of}
 use Rattle.page_roff_syntax.specs.Arguments.{arguments}
 use Rattle.page_roff_syntax.specs.LineForms.{has_word}
 use Rattle.page_roff_syntax.specs.Requests.{request_of}
-use Rattle.page_roff_values.specs.Values.{TextSoFar, LaidText, expanded, units_of}
+use Rattle.page_roff_values.specs.Values.{TextSoFar, LaidText, arguments_in, expanded, lines_in, units_of}
 use Rattle.page_roff_blocks.specs.machine.Budgets.{Effects}
 use Rattle.page_roff_blocks.specs.machine.Languages.{Kind, arguments_of}
 use Rattle.page_roff_values.specs.Answers.{Answer}
-use Rattle.page_roff_definitions.specs.Definitions.{closings_notes, MacroCall, packed}
+use Rattle.page_roff_definitions.specs.Definitions.{closings_notes, packed}
+use Rattle.page_roff_definitions.specs.machine.Buffers.{MacroCall}
 use Rattle.page_roff_effects.specs.declared.at_once.AtOnce.{AtOnce}
 use Rattle.page_roff_effects.specs.declared.at_once.AtOnce.TheVariants as ways
 use Rattle.page_roff_effects.specs.declared.commands.Command.TheVariants.{Pass}
 use Rattle.page_roff_effects.specs.Lines.{called_body, request_command}
+use Rattle.page_roff_effects.specs.Regions.{condition_in, body_in}
 use Rattle.page_roff_effects.specs.declared.commands.ProductKind.{ProductKind}
 use Rattle.page_roff_effects.specs.declared.commands.ProductKind.TheVariants as kinds
 use Rattle.page_roff_effects.specs.States.{Memory, first_memory, Product, no_product, line_product, call_product, loop_product, PartOutcome, TextSetting, surroundings, counted, test_outcome}
@@ -60,15 +62,22 @@ first_setting output = record { output = output; arguments = None }
 abbrev pub kind_of : Product → ProductKind
 kind_of no_product = kinds.Nothing
 kind_of (line_product line) = kinds.Line
-kind_of (call_product call) = kinds.Call
-kind_of (loop_product text) = kinds.Loop
+kind_of (call_product lines arguments) = kinds.Call
+kind_of (loop_product condition lines) = kinds.Loop
+
+-- a call of these lines with these arguments, within the limits of its texts
+pub record IsCallOf (lines arguments : List (List ℕ)) (call : MacroCall) : Type 0 where
+  pub runs : lines_in call.body ≡ lines
+  pub passes : arguments_in call.packed ≡ arguments
+  pub body : length call.body ≤ BODY
+  pub packed : length call.packed ≤ ARGS
 
 -- what came of a part is what is lent
 abbrev pub Lends : Product → Acting → Type 0
 Lends no_product a = Unit {0}
 Lends (line_product line) a = a.line ≡ line
-Lends (call_product call) a = a.call ≡ call
-Lends (loop_product text) a = a.call.body ≡ text
+Lends (call_product lines arguments) a = IsCallOf lines arguments a.call
+Lends (loop_product condition lines) a = (condition_in a.call.body ≡ condition) × (body_in a.call.body ≡ lines)
 
 -- one more macro may run, and this one is within the limits
 pub record IsCallable (may_call : Bool) (call : MacroCall) : Type 0 where
@@ -175,7 +184,7 @@ pub record IsTaken (old : Acting) (raw : List ℕ) (outcome : Bool → PartOutco
 pub record IsCalled (old : Acting) (raw : List ℕ) (outcome : Bool → PartOutcome) (new : Acting) : Type 0 where
   pub leaf : line_parts raw ≡ Leaf raw ∷ []
   pub left : IsLeft old new
-  pub given : outcome true ≡ record { notes = []; product = call_product new.call; memory = old.memory }
+  pub given : outcome true ≡ record { notes = []; product = call_product (lines_in new.call.body) (arguments_in new.call.packed); memory = old.memory }
   pub fits : IsCallable true new.call
 
 -- what came of a raw line at once

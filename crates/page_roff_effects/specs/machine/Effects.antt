@@ -2,14 +2,13 @@
 -- `forest_law` of `page_roff_source`; trust needs no reading of it.
 use Rattle.std.specs.Prelude.{ℕ, Bool, List, ◌++◌}
 use Rattle.page_roff_heads.specs.Conditions.{condition_of}
-use Rattle.page_roff_values.specs.Values.{arguments_in, lines_in}
 use Rattle.page_roff_values.specs.Answers.{Answer}
 use Rattle.page_roff_blocks.specs.machine.Languages.{Kind, arguments_of, Done, gives, calls, repeats}
 use Rattle.page_roff_blocks.specs.machine.Budgets.{Budgeted, Effects}
 use Rattle.page_roff_effects.specs.States.{answer_of, test_outcome, budget_outcome, block_outcome, end_of_block_outcome, Memory, Given, PartOutcome, Product, no_product, line_product, call_product, loop_product, TextSetting}
 use Rattle.page_roff_effects.specs.laws.Views.{State, after}
 use Rattle.page_roff_effects.specs.Lines.{leaf_outcome}
-use Rattle.page_roff_effects.specs.Regions.{loop_outcome, collect_outcome, close_outcome, condition_in, body_in, head_outcome, line_outcome, end_outcome, finish_outcome}
+use Rattle.page_roff_effects.specs.Regions.{loop_outcome, collect_outcome, close_outcome, head_outcome, line_outcome, end_outcome, finish_outcome}
 
 -- what a part of such a source reads
 abbrev pub setting_of : (List ℕ → ℕ) → Kind → TextSetting
@@ -23,8 +22,8 @@ turn_answer setting condition m = answer_of setting (condition_of 1 condition) m
 unfoldable pub done_by : Product → State → Done State
 done_by no_product s = gives s
 done_by (line_product line) s = gives s
-done_by (call_product call) s = calls (lines_in call.body) (arguments_in call.packed) s
-done_by (loop_product text) s = repeats (condition_in text) (body_in text) s
+done_by (call_product lines arguments) s = calls lines arguments s
+done_by (loop_product condition lines) s = repeats condition lines s
 
 unfoldable pub done_after : State → PartOutcome → Done State
 done_after s o = done_by o.product (after s o)
