@@ -1,5 +1,5 @@
 -- What a re-read line and all effects of parts keep, the bodies that run keep: helpers of proofs.
-use Rattle.std.proofs.Common.{◌≡◌, ℕ, Bool, true, false, not, List, Option, refl}
+use Rattle.std.proofs.Common.{◌≡◌, ℕ, Bool, true, false, not, List, Option, refl, arith}
 use Rattle.page_roff_blocks.specs.machine.Languages.{Kind, page, body, run_body, meaning_at}
 use Rattle.page_roff_blocks.specs.machine.Budgets.{Budgeted, Effects, with_rest, charge, language}
 use Rattle.page_roff_blocks.proofs.KeepLemmas.{IsAny, any_line, any_lines}
@@ -35,6 +35,4 @@ module _ {R : Type 0} (e : Effects R) (P : Budgeted R → Type 0) (charge_keeps 
 
   pub body_keeps : (d : ℕ) (args : Option (List (List ℕ))) (lines : List (List ℕ)) (s : Budgeted R) → P s
       → P (run_body (language e) (meaning_at (language e) d (body args)) lines s)
-  body_keeps d args lines s h =
-      (body_tied IsAny AnyKind (Alike (Fresh P P)) (Alike P) (Alike P) (language e) (language e) any_line language_kept d (body args) tt
-      (λ line c. pays_kept.lines d (body args) (λ e. absurd (cc)) line) lines (any_lines lines) s s (refl, h)).1
+  body_keeps d args lines s h = grind (arith, body_tied, any_line, language_kept, any_lines)

@@ -13,26 +13,12 @@ use Rattle.page_roff_blocks.proofs.LinePartLemmas.{EndsRest, part_ends, line_par
 -- ---- its place
 
 end_at : (n : ℕ) (line : List ℕ) → drop n line ≡ drop (length line - length (drop n line)) line
-end_at n line =
-    let l = length-drop n line in
-    elim (cases_Bool (nat_lt (length line) n)) [
-      | inl t ↦
-          let h : length line ≤ n = grind (arith, nat_tests) in
-          let e : length line - length (drop n line) ≡ length line = omega (arith, l, h) in
-          drop_all n line h ∙ sym (ap (λ k. drop k line) e ∙ drop_all (length line) line (omega arith))
-      | inr t ↦
-          let h : n ≤ length line = grind (arith, nat_tests) in
-          let e : length line - length (drop n line) ≡ n = omega (arith, l, h) in
-          sym (ap (λ k. drop k line) e)
-    ]
+end_at n line = grind (arith, length-drop, nat_lt, drop_all)
 
 end_of : (line : List ℕ) (rest : Option (List ℕ)) → EndsRest line rest → IsEndOf line rest
 unfolding EndsRest
 end_of line None h = tt
-end_of line (Some text) h =
-    let l = length-drop h.0 line in
-    let e = h.1 in
-    rw e (omega (arith, l), end_at h.0 line)
+end_of line (Some text) h = grind (arith, length-drop, end_at)
 
 -- what is left of a line after its first part is its end
 pub written_ends : (line : List ℕ) → IsEndOf line (written_part line).rest
@@ -45,11 +31,7 @@ rest_ends line = written_ends line
 -- what is left of the end of a line is the end of the line
 pub end_further : (n : ℕ) (line : List ℕ) (rest : Option (List ℕ)) → n ≤ length line → IsEndOf (drop n line) rest → IsEndOf line rest
 end_further n line None p h = tt
-end_further n line (Some text) p h =
-    let l = length-drop n line in
-    let m = length (drop n line) - length text in
-    let e : n + m ≡ length line - length text = omega (arith, l, h.0) in
-    (omega (arith, l, h.0), h.1 ∙ drop-drop m n line ∙ ap (λ k. drop k line) e)
+end_further n line (Some text) p h = grind (arith, length-drop, drop-drop)
 
 -- it is found again at its place
 pub rest_found : (line : List ℕ) (rest : Option (List ℕ)) → IsEndOf line rest → rest_at line (place_after line rest) ≡ rest
@@ -70,10 +52,7 @@ slice_ends n line p = rw (to_end n line) (end_further n line (part_of (drop n li
 pub slice_parts : (n : ℕ) (line : List ℕ) → n ≤ length line
     → let part = part_of (take (length line - n) (drop n line)) in
     line_parts (drop n line) ≡ part.line_part ∷ parts_at line (record { is_whole = false; is_end = part.is_end; rest = place_after line part.rest })
-slice_parts n line p =
-    let part = part_of (drop n line) in
-    let found = rest_found line part.rest (end_further n line part.rest p (rest_ends (drop n line))) in
-    rw (to_end n line) (line_parts_cons (drop n line) ∙ sym (ap (λ rest. with_part part (line_parts_left rest)) found))
+slice_parts n line p = grind (arith, rest_found, end_further, rest_ends, to_end, line_parts_cons)
 
 -- what of a part belongs to a loop does not change whether it opens a block
 whole_block : (line_part : LinePart (List ℕ)) → is_block (whole_line_part line_part) ≡ is_block line_part

@@ -1,5 +1,5 @@
 -- What is in front stays there: helpers of proofs.
-use Rattle.std.proofs.Common.{◌≡◌, ℕ, Bool, true, false, List, [], ◌∷◌, Option, Some, None, refl, sym}
+use Rattle.std.proofs.Common.{◌≡◌, ℕ, Bool, true, false, List, [], ◌∷◌, Option, Some, None, refl, sym, arith}
 use Rattle.page_roff_syntax.specs.Regions.{Opened}
 use Rattle.page_roff_blocks.specs.machine.Run.{At}
 use Rattle.page_roff_blocks.specs.machine.Steps.{step_lines}
@@ -22,30 +22,11 @@ module _ {S : Type 0} (front : S → S) (l : Language S) (f : IsFront front l) w
 
   parts_front : (d : ℕ) (kind : Kind) → TiesParts IsAny Front Front Front (meaning_at l d kind) (meaning_at l d kind)
   unfolding meaning_at meaning_by
-  parts_front d kind =
-      let k = f.parts kind in
-      record {
-        base = of_one Front;
-        full = λ s t r. r;
-        meets = λ next s t r. rw (← of_one Front next s t r) (met_front _ _ (k.meets next s));
-        tests = λ condition s t r. rw (← r) (both_front _ _ (k.tests condition s));
-        refuses = λ h s t r. rw (← r) (sym (k.refuses h s));
-        unopened = λ s t r. rw (← r) (sym (k.unopened s));
-        opens_region = λ head run s t r. rw (← r) (sym (k.opens_region head run s));
-        opens_loop = λ h s t c r. rw (← r) (sym (k.opens_loop h s));
-      }
+  parts_front d kind = grind (arith, of_one, met_front, both_front)
 
   line_front : (d : ℕ) (kind : Kind) (line : List ℕ) → IsAny line → TiesLine Front Front Front (meaning_at l d kind) (meaning_at l d kind) line
   unfolding meaning_at meaning_by
-  line_front d kind line c =
-      let k = f.parts kind in
-      record {
-        begins = λ s t r. rw (← r) (sym (k.begins line s));
-        reads = λ o s t r. rw (← r) (sym (k.reads o line s));
-        ends_region = λ o s t r. rw (← r) (sym (k.ends_region o line s));
-        collects = λ open_blocks s t r. rw (← r) (sym (k.collects open_blocks line s));
-        keeps = λ s t r. rw (← r) (sym (k.keeps line s));
-      }
+  line_front d kind line c = grind arith
 
   done_front : (done : Done S) → DoneTied IsAny AnyKind Front done (over_done front done)
   done_front (gives s) = give s (front s) refl
@@ -94,11 +75,7 @@ module _ {S : Type 0} (front : S → S) (l : Language S) (f : IsFront front l) w
   ended_front : (turning : Option Turning) (d : ℕ) (kind : Kind) (a b : At S) → BothAt Front a b → Front (ended l turning (meaning_at l d kind) kind a) (ended l turning (meaning_at l d kind) kind b)
   unfolding ended
   ended_front None d kind a b r = finish_tied IsAny AnyKind Front Front Front l l any_line front_tied a b r
-  ended_front (Some t) d kind a b r =
-      let run = run_body l (meaning_at l d kind) t.lines in
-      turns_tied IsAny AnyKind Front Front Front l l any_line front_tied kind t.condition tt tt run run
-      (body_tied IsAny AnyKind Front Front Front l l any_line front_tied d kind tt (line_front d kind) t.lines (any_lines t.lines)) t.left
-      (finish_if l t.begun a) (finish_if l t.begun b) (last_front t.begun a b r)
+  ended_front (Some t) d kind a b r = grind (arith, turns_tied, any_line, front_tied, body_tied, line_front, any_lines, last_front)
 
   after_front : (kind : Kind) (turning : Option Turning) (lines : List (List ℕ)) (under : List Frame) (a b : At S) → BothAt Front a b
       → BothAt Front (after_line l kind turning lines under a) (after_line l kind turning lines under b)
@@ -111,7 +88,4 @@ module _ {S : Type 0} (front : S → S) (l : Language S) (f : IsFront front l) w
 
   pub rest_front : (r : Running S) → rest_of l (over_running front r) ≡ over front (rest_of l r)
   unfolding rest_of rest line_rest
-  rest_front r =
-      let g = r.top in
-      let e = after_front g.kind g.turning g.lines r.under _ _ (in_front (depth r.under) g.kind g.region g r.state (front r.state) refl) in
-      sym (same_at _ _ e)
+  rest_front r = grind (arith, after_front, in_front, same_at)

@@ -1,5 +1,5 @@
 -- What all effects of parts keep, the lines of a page keep, with the macros that they call and their loops: helpers of proofs.
-use Rattle.std.proofs.Common.{ℕ, zero, suc, Bool, true, false, ◌&&◌, not, List, Option, Some, None, refl}
+use Rattle.std.proofs.Common.{ℕ, zero, suc, Bool, true, false, ◌&&◌, not, List, Option, Some, None, refl, arith}
 use Rattle.page_roff_heads.specs.declared.conditions.Condition.{Condition}
 use Rattle.page_roff_heads.specs.declared.loops.LoopHead.{LoopHead}
 use Rattle.page_roff_blocks.specs.declared.line_parts.Head.{Head}
@@ -132,5 +132,4 @@ module _ {R : Type 0} (T : List ℕ → Type 0) (K : Kind → Type 0) (P : R →
   }
 
   pub page_keeps : K page → (lines : List (List ℕ)) (a : At (Budgeted R)) → AreSuch T lines → P a.state.rest → P (run_page (language e) lines a).state.rest
-  page_keeps a lines at c h =
-      (page_tied T K Tied Tied Tied (language e) (language e) leaves languages_tied a (lines_tied CALLS page a) lines c at at (refl, (refl, h))).1.1
+  page_keeps a lines at c h = grind (arith, page_tied, languages_tied, lines_tied)

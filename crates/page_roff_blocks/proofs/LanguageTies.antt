@@ -1,5 +1,5 @@
 -- Two languages side by side: with the macros that they call and their loops, states that are tied stay tied. Helpers of proofs.
-use Rattle.std.proofs.Common.{ℕ, zero, suc, Bool, true, false, List, Option, Some, None, refl, subst}
+use Rattle.std.proofs.Common.{ℕ, zero, suc, Bool, true, false, List, Option, Some, None, refl, subst, arith}
 use Rattle.page_roff_syntax.specs.Regions.{Opened}
 use Rattle.page_roff_blocks.specs.Forest.{first_place, SourcePlace}
 use Rattle.page_roff_blocks.specs.machine.Run.{At}
@@ -38,9 +38,7 @@ module _ {S Q : Type 0} (T : List ℕ → Type 0) (K : Kind → Type 0) (N F B :
     (leaves : HasLeaves T) (k : TiesLanguages T K N F B l o) where
   pub finish_tied : (a : At S) (b : At Q) → BothAt B a b → B (finish_at l a) (finish_at o b)
   unfolding finish_at
-  finish_tied a b h =
-      subst (λ (place : SourcePlace). B (finish_at l a) (o.finish place.region place.levels.in_loop b.state)) h.0
-      (k.finish a.place.region a.place.levels.in_loop a.state b.state h.1)
+  finish_tied a b h = grind arith
 
   if_tied : (x : S → S) (y : Q → Q) → ((s : S) (t : Q) → B s t → B (x s) (y t)) → (runs : Bool) (s : S) (t : Q) → B s t → B (run_if runs x s) (run_if runs y t)
   unfolding run_if
@@ -66,7 +64,7 @@ module _ {S Q : Type 0} (T : List ℕ → Type 0) (K : Kind → Type 0) (N F B :
 
   pub gives_tied : (d : ℕ) → DonesTied d → (kind : Kind) → K kind → (text : List ℕ) (s : S) (t : Q) → T text → F s t → B ((meaning_at l d kind).gives text s) ((meaning_at o d kind).gives text t)
   unfolding meaning_at meaning_by DonesTied
-  gives_tied d dones kind a text s t c h = dones kind a (l.leaf (is_some d) kind text s) (o.leaf (is_some d) kind text t) (k.leaf (is_some d) kind text s t a c h)
+  gives_tied d dones kind a text s t c h = grind arith
 
   pub closes_tied : (d : ℕ) → DonesTied d → (kind : Kind) → K kind → (s : S) (t : Q) → B s t → B ((meaning_at l d kind).closes_loop s) ((meaning_at o d kind).closes_loop t)
   unfolding meaning_at meaning_by DonesTied
@@ -76,21 +74,16 @@ module _ {S Q : Type 0} (T : List ℕ → Type 0) (K : Kind → Type 0) (N F B :
   source_tied : (d : ℕ) → DonesTied d → (kind : Kind) → K kind → ((line : List ℕ) → T line → TiesLine B N B (meaning_at l d kind) (meaning_at o d kind) line)
       → (lines : List (List ℕ)) → AreSuch T lines → (a : At S) (b : At Q) → BothAt B a b
       → BothAt B (step_lines (meaning_at l d kind) lines a) (step_lines (meaning_at o d kind) lines b)
-  source_tied d dones kind a i lines c =
-      lines_tied T N F B (meaning_at l d kind) (meaning_at o d kind) (k.parts d kind a) (gives_tied d dones kind a) (closes_tied d dones kind a) leaves i lines c
+  source_tied d dones kind a i lines c = grind (arith, lines_tied, gives_tied, closes_tied)
 
   body_by : (d : ℕ) → DonesTied d → (kind : Kind) → K kind → ((line : List ℕ) → T line → TiesLine B N B (meaning_at l d kind) (meaning_at o d kind) line)
       → (lines : List (List ℕ)) → AreSuch T lines → (s : S) (t : Q) → B s t → B (run_body l (meaning_at l d kind) lines s) (run_body o (meaning_at o d kind) lines t)
   unfolding run_body
-  body_by d dones kind a i lines c s t h =
-      let from : At S = record { place = first_place; state = s } in
-      let also : At Q = record { place = first_place; state = t } in
-      finish_tied (step_lines (meaning_at l d kind) lines from) (step_lines (meaning_at o d kind) lines also) (source_tied d dones kind a i lines c from also (refl, h))
+  body_by d dones kind a i lines c s t h = grind (arith, finish_tied, source_tied)
 
   loop_by : (d : ℕ) → DonesTied d → (args : Option (List (List ℕ))) → K (body args) → (condition : List ℕ) → T condition → (lines : List (List ℕ)) → AreSuch T lines → (s : S) (t : Q) → B s t
       → B (turns l TURNS (run_body l (meaning_at l d (body args)) lines) (body args) condition s) (turns o TURNS (run_body o (meaning_at o d (body args)) lines) (body args) condition t)
-  loop_by d dones args a condition c lines such s t h =
-      turns_tied (body args) condition a c (run_body l (meaning_at l d (body args)) lines) (run_body o (meaning_at o d (body args)) lines) (body_by d dones (body args) a (k.lines d args a) lines such) TURNS s t h
+  loop_by d dones args a condition c lines such s t h = grind (arith, turns_tied, body_by)
 
   pub dones_tied : (d : ℕ) → DonesTied d
   unfolding DonesTied done_at done_by meaning_at inner

@@ -90,7 +90,7 @@ module _ {R : Type 0} (spent : R → ℕ) (most : ℕ) (e : Effects R) (p : Spen
 
   flag_base : (is_run gave_up : Bool) (kind : Kind) (o : Opened) (line : List ℕ) (s : Budgeted R) → Ready F B (not gave_up) s
       → B (with_rest e s (e.reads kind o (is_run && not gave_up) line s.rest))
-  flag_base true false kind o line s h = let r = e.reads kind o true line s.rest in k.body (with_rest e s r) (k.pays s r (p.reads kind o line s.rest) h)
+  flag_base true false kind o line s h = grind arith
   flag_base true true kind o line s h = k.same s (e.reads kind o false line s.rest) (p.passes kind o line s.rest) h
   flag_base false gave_up kind o line s h = k.same s (e.reads kind o false line s.rest) (p.passes kind o line s.rest) (ready_base (not gave_up) s h)
 
@@ -110,10 +110,7 @@ module _ {R : Type 0} (spent : R → ℕ) (most : ℕ) (e : Effects R) (p : Spen
       → let v = turn_by e gave_up kind condition s in (v.0 ≡ true → G v.1) × B v.1
   unfolding turn_by
   turned_paid true kind condition s h = (λ x. absurd (cc), h)
-  turned_paid false kind condition s h =
-      let r = (e.turns kind condition s.rest).1 in
-      let g = k.pays s r (p.turns kind condition s.rest) h in
-      (λ x. g, k.body (with_rest e s r) g)
+  turned_paid false kind condition s h = grind arith
 
   meets_paid : (is_remainder : Bool) (s t : Budgeted R) → Ties (Alike B) (Alike (Fresh F B)) is_remainder s t → Met (Alike F) (Alike B) (meet e is_remainder s) (meet e is_remainder t)
   unfolding meet whether_run

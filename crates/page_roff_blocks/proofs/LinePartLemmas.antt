@@ -51,11 +51,7 @@ further_rest n line (Some remainder) a b h = (n + h.0, h.1 ∙ drop-drop h.0 n l
 
 remainder_ends : (column : ℕ) (text : List ℕ) → EndsRemainder text (remainder_of column text)
 unfolding EndsRemainder remainder_of
-remainder_ends column text =
-    elim (cases_Bool (is_some_line (after_blanks text))) [
-      | inl t ↦ rw t (blank_len text, refl)
-      | inr t ↦ rw t tt
-    ]
+remainder_ends column text = grind arith
 
 guarded_ends : (column : ℕ) (text : List ℕ) → EndsRemainder text (guarded_of column text).remainder
 unfolding guarded_of
@@ -134,22 +130,14 @@ part_shorter line = written_shorter line
 uncommented_nameless : (line : List ℕ) → begins_control line ≡ false → name_of (uncommented_form (without_comment line)) ≡ None
 uncommented_nameless [] h = refl
 uncommented_nameless (x ∷ []) h = rw h refl
-uncommented_nameless (x ∷ y ∷ ys) h =
-    elim (cases_Bool (x == 92)) [
-      | inl t ↦ elim (cases_Bool (begins_comment y)) [ inl c ↦ rw (t, c) refl | inr c ↦ rw (t, c, h) refl ]
-      | inr t ↦ rw (t, h) refl
-    ]
+uncommented_nameless (x ∷ y ∷ ys) h = grind arith
 
 unnamed : (line : List ℕ) → begins_control line ≡ false → name_of (form_of line) ≡ None
 unnamed line h = elim (cases_Bool (has_word line)) [ inl w ↦ rw w (uncommented_nameless line h) | inr w ↦ rw w refl ]
 
 -- a line with a name begins with a control character
 begins_named : (line name : List ℕ) → name_of (form_of line) ≡ Some name → begins_control line ≡ true
-begins_named line name e =
-    elim (cases_Bool (begins_control line)) [
-      | inl t ↦ t
-      | inr t ↦ let n = unnamed line t in let no : ⊥ = cc in absurd no
-    ]
+begins_named line name e = grind (arith, unnamed)
 
 no_white : (x : ℕ) → is_control x ≡ true → is_white x ≡ false
 no_white x h = grind (arith, nat_tests)
@@ -205,9 +193,7 @@ named_within line name e =
 -- ---- the first part of a control line, by what it heads
 
 part_in : (line : List ℕ) (form : LineForm (List ℕ)) (name : List ℕ) → name_of form ≡ Some name → form_part line form ≡ named_part (keyword_of name) line form
-part_in line (Control other column rest rest_column) name e =
-    let same : other ≡ name = cc in
-    rw same refl
+part_in line (Control other column rest rest_column) name e = grind arith
 part_in line _ name e = refl
 
 pub part_named : (line name : List ℕ) → name_of (form_of line) ≡ Some name → written_part line ≡ named_part (keyword_of name) line (form_of line)
@@ -218,9 +204,7 @@ part_named line name e = part_in line (form_of line) name e
 
 named_other : (line : List ℕ) (form : LineForm (List ℕ)) (name : List ℕ) → name_of form ≡ Some name → keyword_of name ≡ keywords.Other
     → form_part line form ≡ plain_part line
-named_other line (Control other column rest rest_column) name e k =
-    let same : other ≡ name = cc in
-    rw (same, k) refl
+named_other line (Control other column rest rest_column) name e k = grind arith
 named_other line _ name e k = refl
 
 pub plain_named : (line name : List ℕ) → name_of (form_of line) ≡ Some name → keyword_of name ≡ keywords.Other → written_part line ≡ plain_part line
@@ -267,12 +251,10 @@ all_left n (Some line) p = enough n (suc (length line)) (Some line) p (omega ari
 -- the parts of a line are its first one, and those of what is left of the line
 pub line_parts_cons : (line : List ℕ) → line_parts line ≡ with_part (part_of line) (line_parts_left (part_of line).rest)
 unfolding line_parts
-line_parts_cons line =
-    ap (with_part (part_of line)) (all_left (length line) (part_of line).rest (room_left line (part_of line).rest (part_shorter line)))
+line_parts_cons line = grind (arith, all_left, room_left, part_shorter)
 
 -- ---- a line that heads nothing and ends no block is one part
 
 pub one_leaf : (line : List ℕ) → written_part line ≡ plain_part line → block_end_of line ≡ None → line_parts line ≡ Leaf line ∷ []
 unfolding part_of
-one_leaf line h e =
-    line_parts_cons line ∙ ap (λ part. with_part (whole_part part) (line_parts_left part.rest)) (h ∙ ap (cut_part line) e)
+one_leaf line h e = grind (arith, line_parts_cons)

@@ -49,9 +49,7 @@ plain_before line =
 keyword_before : (k : Keyword) (line : List ℕ) (column : ℕ) (rest : List ℕ) (rest_column : ℕ)
     → before_end (keyword_part k line column rest rest_column).line_part ≤ length line
 keyword_before keywords.Else line column rest n = rw (head_before (guarded_of n (raw_rest line n)).opens_block _) (omega arith)
-keyword_before keywords.While line column rest n =
-    let read = loop_of n (raw_rest line n) in
-    rw (loop_before read.guarded.opens_block read) (omega arith)
+keyword_before keywords.While line column rest n = grind (arith, loop_before)
 keyword_before (keywords.Region kind) line column rest n = omega arith
 keyword_before keywords.Other line column rest n = plain_before line
 keyword_before _ line column rest n = rw (head_before (conditional_of n (raw_rest line n)).guarded.opens_block _) (omega arith)
@@ -94,10 +92,7 @@ all_left n blocks (Some line) p = enough n (suc (length line)) blocks (Some line
 pub left_cons : (blocks : ℕ) (line : List ℕ) → let part = written_part line in
     left_of blocks line ≡ left_by (blocks_after part.line_part part.is_end blocks) (λ b. left_rest b part.rest) (drop (before_end part.line_part) line)
 unfolding left_of
-left_cons blocks line =
-    let part = written_part line in
-    by_same (blocks_after part.line_part part.is_end blocks) (λ b. left_in (length line) b part.rest) (λ b. left_rest b part.rest) (drop (before_end part.line_part) line)
-    (λ b. all_left (length line) b part.rest (room_left line part.rest (written_shorter line)))
+left_cons blocks line = grind (arith, by_same, all_left, room_left, written_shorter)
 
 -- ---- from a place in a line on, of which a slice holds the end
 
@@ -110,29 +105,15 @@ pub len_found : (around blocks n : ℕ) (line : List ℕ) (part : RawPart (List 
     → left_of around line ≡ left_of blocks (drop n line) → blocks_after part.line_part part.is_end blocks ≡ None
     → (len_of around line ≡ Some (n + before_end part.line_part)) × (n + before_end part.line_part ≤ length line)
 unfolding len_of
-len_found around blocks n line part p e same ends =
-    let rest = drop n line in
-    let is : part ≡ written_part rest = e ∙ ap written_part (to_end n line) in
-    let w : before_end part.line_part ≤ length rest = rw is (before_within rest) in
-    let none : blocks_after (written_part rest).line_part (written_part rest).is_end blocks ≡ None = rw is at ends in
-    let left : left_of around line ≡ Some (drop (before_end part.line_part) rest) =
-    rw is (same ∙ left_cons blocks rest ∙ ap (λ b. left_by b (λ b. left_rest b (written_part rest).rest) (drop (before_end (written_part rest).line_part) rest)) none) in
-    let k = length-drop n line in
-    let j = length-drop (before_end part.line_part) rest in
-    let len : length line - length (drop (before_end part.line_part) rest) ≡ n + before_end part.line_part = omega (arith, k, j, w, p) in
-    (ap (len_before line) left ∙ ap Some len, omega (arith, k, w, p))
+len_found around blocks n line part p e same ends = grind (arith, to_end, before_within, left_cons, length-drop)
 
 -- it goes on after this part
 left_next : (around blocks b n : ℕ) (line : List ℕ) (part : RawPart (List ℕ)) → part ≡ part_from n line
     → left_of around line ≡ left_of blocks (drop n line) → blocks_after part.line_part part.is_end blocks ≡ Some b → left_of around line ≡ left_rest b part.rest
-left_next around blocks b n line part e same goes =
-    let rest = drop n line in
-    let is : part ≡ written_part rest = e ∙ ap written_part (to_end n line) in
-    let some : blocks_after (written_part rest).line_part (written_part rest).is_end blocks ≡ Some b = rw is at goes in
-    rw is (same ∙ left_cons blocks rest ∙ ap (λ b. left_by b (λ b. left_rest b (written_part rest).rest) (drop (before_end (written_part rest).line_part) rest)) some)
+left_next around blocks b n line part e same goes = grind (arith, to_end, left_cons)
 
 pub ends_from : (n : ℕ) (line : List ℕ) (part : RawPart (List ℕ)) → n ≤ length line → part ≡ part_from n line → IsEndOf line part.rest
-ends_from n line part p e = rw (e ∙ ap written_part (to_end n line)) (end_further n line (written_part (drop n line)).rest p (written_ends (drop n line)))
+ends_from n line part p e = grind (arith, to_end, end_further, written_ends)
 
 shorter_from : (n : ℕ) (line : List ℕ) (part : RawPart (List ℕ)) → part ≡ part_from n line → IsShorter (drop n line) part.rest
 shorter_from n line part e = rw (e ∙ ap written_part (to_end n line)) (written_shorter (drop n line))
@@ -153,9 +134,7 @@ len_none around blocks b n line part e same goes last =
 next_rest : (line : List ℕ) (b next : ℕ) (rest : Option (List ℕ)) → IsEndOf line rest → place_after line rest ≡ Some next
     → left_rest b rest ≡ left_of b (drop next line)
 next_rest line b next None h e = let no : ⊥ = cc in absurd no
-next_rest line b next (Some text) h e =
-    let is : length line - length text ≡ next = cc in
-    ap (left_of b) (h.1 ∙ ap (λ k. drop k line) is)
+next_rest line b next (Some text) h e = grind arith
 
 pub next_left : (around blocks b n next : ℕ) (line : List ℕ) (part : RawPart (List ℕ)) → n ≤ length line → part ≡ part_from n line
     → left_of around line ≡ left_of blocks (drop n line) → blocks_after part.line_part part.is_end blocks ≡ Some b → place_after line part.rest ≡ Some next
@@ -166,10 +145,7 @@ next_left around blocks b n next line part p e same goes place =
 further_in : (n next : ℕ) (line : List ℕ) (rest : Option (List ℕ)) → n ≤ length line → IsEndOf line rest → IsShorter (drop n line) rest → place_after line rest ≡ Some next
     → (n < next) × (next ≤ length line)
 further_in n next line None p h s e = let no : ⊥ = cc in absurd no
-further_in n next line (Some text) p h s e =
-    let is : length line - length text ≡ next = cc in
-    let k = length-drop n line in
-    (omega (arith, is, h.0, s, k, p), omega (arith, is))
+further_in n next line (Some text) p h s e = grind (arith, length-drop)
 
 -- it lies further in the line
 pub next_further : (n next : ℕ) (line : List ℕ) (part : RawPart (List ℕ)) → n ≤ length line → part ≡ part_from n line → place_after line part.rest ≡ Some next

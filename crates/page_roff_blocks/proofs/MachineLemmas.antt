@@ -41,17 +41,8 @@ module _ {S : Type 0} (l : Language S) where
     done_law zero (calls ls args s) e = refl
     done_law zero (repeats condition ls s) e = refl
     done_law (suc d) (gives s) e = refl
-    done_law (suc d) (calls ls args s) e =
-        let a : At S = record { place = first_place; state = s } in
-        let k = body (Some args) in
-        let fewer : d ≡ CALLS - suc (length under) = sym (one_less CALLS (length under) d e) in
-        ap (λ d. after_line l kind turning lines under (step_parts (meaning_at l (CALLS - length under) kind) more cursor
-        (finish_at l (step_lines (meaning_at l d k) ls a)))) fewer
-    done_law (suc d) (repeats condition ls s) e =
-        let k = inner kind in
-        let fewer : d ≡ CALLS - suc (length under) = sym (one_less CALLS (length under) d e) in
-        ap (λ d. after_line l kind turning lines under (step_parts (meaning_at l (CALLS - length under) kind) more cursor
-        (turns l TURNS (run_body l (meaning_at l d k) ls) k condition s))) fewer
+    done_law (suc d) (calls ls args s) e = grind (arith, one_less)
+    done_law (suc d) (repeats condition ls s) e = grind (arith, one_less)
 
     leaf_law : (is_met : Bool) (text : List ℕ) (s : S) → further (blocks.leaf_if m is_met text s) ≡ rest_of l (leaf_if l is_met text f under s)
     unfolding blocks.leaf_if leaf_if meaning_at meaning_by rest_of rest line_rest line_in
@@ -78,16 +69,11 @@ module _ {S : Type 0} (l : Language S) where
       → let f = frame kind None (part ∷ more) cursor lines turning in
       rest l f under s ≡ rest_of l (part_next l (meaning_at l (depth under) kind) part more f under s)
   unfolding rest_of rest line_rest line_in part_next at_part between step_parts step_leaf step_loop step_end step_region at_line
-  part_law (Leaf text) under kind more cursor lines turning s =
-      let q = met (meaning_at l (depth under) kind) cursor s in
-      leaf_law under kind more (after_part cursor.levels) lines turning q.0 text q.1
+  part_law (Leaf text) under kind more cursor lines turning s = grind (arith, leaf_law)
   part_law (Guard h) under kind more cursor lines turning s = refl
   part_law (Block h) under kind more cursor lines turning s = refl
-  part_law (Loop h) under kind more cursor lines turning s =
-      let q = met (meaning_at l (depth under) kind) cursor s in
-      loop_law under kind more (after_part cursor.levels) lines turning q.0 h q.1
-  part_law End under kind more cursor lines turning s =
-      ending_law under kind more (after_part (leave cursor.levels)) lines turning (what_ends cursor.levels) s
+  part_law (Loop h) under kind more cursor lines turning s = grind (arith, loop_law)
+  part_law End under kind more cursor lines turning s = grind (arith, ending_law)
   part_law (Region head) under kind more cursor lines turning s = refl
 
   after_cons : (kind : Kind) (turning : Option Turning) (line : List ℕ) (more : List (List ℕ)) (under : List Frame) (a : At S)
@@ -114,8 +100,7 @@ module _ {S : Type 0} (l : Language S) where
   line_law : (line : List ℕ) (more : List (List ℕ)) (kind : Kind) (cursor : BlockCursor) (turning : Option Turning) (under : List Frame) (s : S)
       → let f = frame kind None [] cursor (line ∷ more) turning in rest l f under s ≡ rest_of l (line_next l (meaning_at l (depth under) kind) line more f under s)
   unfolding rest_of rest line_rest line_in line_next step step_from step_parts
-  line_law line more kind cursor turning under s =
-      after_cons kind turning line more under (record { place = record { region = None; levels = cursor.levels }; state = s })
+  line_law line more kind cursor turning under s = grind (arith, after_cons)
 
   -- ---- turns of loops
 
@@ -164,9 +149,9 @@ module _ {S : Type 0} (l : Language S) where
   unfolding come next_in rest line_rest line_in step_parts
   step_law None (part ∷ more) lines kind cursor turning under s = part_law part under kind more cursor lines turning s
   step_law None [] (line ∷ more) kind cursor turning under s = line_law line more kind cursor turning under s
-  step_law None [] [] kind cursor turning under s = source_law turning under kind (record { place = record { region = None; levels = cursor.levels }; state = s })
+  step_law None [] [] kind cursor turning under s = grind (arith, source_law)
   step_law (Some o) parts (line ∷ more) kind cursor turning under s = region_law o line more kind parts cursor turning under s
-  step_law (Some o) parts [] kind cursor turning under s = source_law turning under kind (record { place = record { region = Some o; levels = cursor.levels }; state = s })
+  step_law (Some o) parts [] kind cursor turning under s = grind (arith, source_law)
 
   next_come : (r : Running S) → rest_of l r ≡ come (stands_at r) (next l r)
   unfolding next rest_of stands_at
@@ -188,7 +173,4 @@ module _ {S : Type 0} (l : Language S) where
 
   pub page_law : (line : List ℕ) (a : At S) → rest_of l (at_page line a) ≡ run_page l (line ∷ []) a
   unfolding rest_of rest line_rest after_line at_page at_line run_page depth
-  page_law line a =
-      let m = meaning_at l CALLS page in
-      let f = (at_page line a).top in
-      ap (step_lines m (line ∷ [])) (first_law a.place.region m f a.state refl)
+  page_law line a = grind (arith, first_law)

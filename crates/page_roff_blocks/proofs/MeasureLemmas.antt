@@ -26,16 +26,12 @@ module _ {R : Type 0} (e : Effects R) (huge : ℕ) (r : Running (Budgeted R)) (o
   -- credit and work: less of the one or as much, and less of the other
   falls : (s : Budgeted R) (f g w : ℕ) → g ≤ f → credit s f ≤ most → suc w ≤ work → suc (huge * credit s g + w) ≤ measure huge r
   unfolding most work measure
-  falls s f g w i h j =
-      let c : credit s g ≤ credit r.state (fresh_in r.top + freshes r.under) = omega (arith, h, credit_grow s g f i) in
-      omega (arith, j, mul-le-mul_left huge c)
+  falls s f g w i h j = grind (arith, credit_grow, mul-le-mul_left)
 
   -- a body that begins is paid by credit
   pays : (s : Budgeted R) (f g w n : ℕ) → g ≤ f → suc (credit s f) ≤ most → suc n ≤ huge → w ≤ n + work → suc (huge * credit s g + w) ≤ measure huge r
   unfolding most work measure
-  pays s f g w n i h small j =
-      let c : suc (credit s g) ≤ credit r.state (fresh_in r.top + freshes r.under) = omega (arith, h, credit_grow s g f i) in
-      omega (arith, j, small, mul-le-mul_left huge c)
+  pays s f g w n i h small j = grind (arith, credit_grow, mul-le-mul_left)
 
   Falls : Running (Budgeted R) → Type 0
   Falls q = HasBodyWithin huge r q → suc (measure huge q) ≤ measure huge r

@@ -1,5 +1,5 @@
 -- Lines of the page are run by themselves: helpers of proofs.
-use Rattle.std.proofs.Common.{◌≡◌, Some}
+use Rattle.std.proofs.Common.{◌≡◌, Some, arith}
 use Rattle.page_roff_blocks.specs.machine.Languages.{Kind, page, body, inner}
 use Rattle.page_roff_blocks.specs.machine.Machine.{Running, entered, looped, turned, at_part, between, next}
 use Rattle.page_roff_blocks.specs.machine.Budgets.{Budgeted, Effects, language}
@@ -35,23 +35,7 @@ next_on e r q h x = next_rule AnyKind Any Any Any Any (language e) (any_pays (la
 -- after the first step of a line
 first_rules : {R : Type 0} (r : Running (Budgeted R)) → IsFirst r → Rules AnyKind Any Any Any r HasMeasure
 unfolding IsFirst HasMeasure IsOnLine AreOnLine between
-first_rules r h =
-    let l = h.1 in
-    let p = h.2 in
-    let u = h.3 in
-    record {
-      base = tt;
-      fresh = λ part more none is e. tt;
-      kind = λ line more is. tt;
-      past = λ part more none is c b s q. absurd (cc);
-      call = λ part more none is c b run lines args s q. absurd (cc);
-      repeat = λ part more none is c b run condition lines s q. absurd (cc);
-      opens = λ part more none is o s q. absurd (cc);
-      line = λ line more none is s q. (λ x. (cc, h.4), rw u tt);
-      inside = λ line more is region s q. (λ x. (cc, h.4), rw u tt);
-      over = λ g gs is s q. absurd (cc);
-      again = λ g gs is t left e i s q. absurd (cc);
-    }
+first_rules r h = grind arith
 
 pub first_falls : {R : Type 0} (e : Effects R) (r q : Running (Budgeted R)) → IsFirst r → next (language e) r ≡ Some q → HasMeasure q
 first_falls e r q h x = next_rule AnyKind Any Any Any Any (language e) (any_pays (language e)) r HasMeasure (first_rules r h) q x

@@ -55,9 +55,7 @@ module _ {S : Type 0} (m : Meaning S) where
 
   block_room : (is_met : Bool) (h : Opening (List ℕ)) (cursor : BlockCursor) (s : S) → (block_met m is_met h cursor s).0.levels.skipped ≤ cursor.levels.skipped + 1
   unfolding block_met opening_met block_with after_part open_loop skip
-  block_room true (openings.Conditional h) cursor s =
-      let v = value m h.branch cursor.levels.bit s in
-      enter_room (way_of v.0 (length cursor.levels.outer)) (bit_after h.branch v.0 cursor.levels.bit) cursor.levels
+  block_room true (openings.Conditional h) cursor s = grind (arith, enter_room)
   block_room true (openings.Loop h) cursor s = omega arith
   block_room false h cursor s = omega arith
 

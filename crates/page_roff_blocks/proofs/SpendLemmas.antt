@@ -76,10 +76,7 @@ module _ {R : Type 0} (spent : R → ℕ) (most : ℕ) (e : Effects R) (p : Spen
   paid_steps = steps_paid spent most e p AnyKind Full Base Base paid
 
   pub page_base : (lines : List (List ℕ)) (x : At (Budgeted R)) → Base x.state → Base (run_page (language e) lines x).state
-  page_base lines x h =
-      (page_tied IsAny AnyKind (Alike (Fresh Full Base)) (Alike Full) (Alike Base) (language e) (language e) any_line
-      (pays_tied AnyKind (Fresh Full Base) Full Base Base (language e) paid_steps (λ args. tt)) tt (λ line c. paid_steps.lines CALLS page tt line) lines (any_lines lines) x x
-      (refl, (refl, h))).1.1
+  page_base lines x h = grind (arith, page_tied, any_line, pays_tied, paid_steps, any_lines)
 
   -- ---- step by step
 
@@ -96,9 +93,7 @@ module _ {R : Type 0} (spent : R → ℕ) (most : ℕ) (e : Effects R) (p : Spen
 
   kept_empty : (f : Frame) (under : List Frame) (s : Budgeted R) → f.parts ≡ [] → AreMet under → Base s → Kept (record { top = f; under = under; state = s })
   unfolding unspent
-  kept_empty f under s t u h =
-      let k : unspent_at f.region f.parts f.cursor.begun s.gave_up most ≡ 0 = rw t (empty_none f.region f.cursor.begun s.gave_up most) in
-      (u, omega (arith, h, k))
+  kept_empty f under s t u h = grind (arith, empty_none)
 
   fresh_of : (gave_up : Bool) (s : Budgeted R) → spent s.rest + unspent_if false gave_up most + a ≤ most * s.taken + b → Ready Full Base (not gave_up) s
   unfolding unspent_if

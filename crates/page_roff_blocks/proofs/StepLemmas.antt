@@ -1,5 +1,5 @@
 -- What a step leads to, by what it does: helpers of proofs.
-use Rattle.std.proofs.Common.{◌≡◌, ℕ, zero, suc, Bool, true, false, List, [], ◌∷◌, Option, Some, None, refl, subst}
+use Rattle.std.proofs.Common.{◌≡◌, ℕ, zero, suc, Bool, true, false, List, [], ◌∷◌, Option, Some, None, refl, subst, arith}
 use Rattle.page_roff_heads.specs.declared.loops.LoopHead.{LoopHead}
 use Rattle.page_roff_blocks.specs.declared.line_parts.LinePart.{LinePart}
 use Rattle.page_roff_blocks.specs.declared.line_parts.LinePart.TheVariants.{Leaf, Guard, Block, Loop, End, Region}
@@ -95,7 +95,7 @@ module _ {S : Type 0} (K : Kind → Type 0) (N F B G : S → Type 0) (l : Langua
 
     leaf_rule : (text : List ℕ) (c : BlockCursor) → c.begun ≡ true → (is_met : Bool) (s : S) → Ties (Alike F) (Alike B) is_met s s → Q (leaf_if l is_met text (at c) r.under s)
     unfolding leaf_if at at_part
-    leaf_rule text c b true s h = let run = is_some (depth r.under) in done_rule c b run refl (l.leaf run r.top.kind text s) (p.leaf run r.top.kind text s h.1)
+    leaf_rule text c b true s h = grind (arith, done_rule)
     leaf_rule text c b false s h = q.past part more none is c b s h.1
 
     whole_rule : (c : BlockCursor) → c.begun ≡ true → (s : S) → B s → Q (loop_next l (at c) r.under s)
@@ -115,8 +115,7 @@ module _ {S : Type 0} (K : Kind → Type 0) (N F B G : S → Type 0) (l : Langua
 
   met_rule : (part : LinePart (List ℕ)) (more : List (LinePart (List ℕ))) → r.top.region ≡ None → r.top.parts ≡ part ∷ more
       → Ties (Alike F) (Alike B) (met m r.top.cursor r.state).0 (met m r.top.cursor r.state).1 (met m r.top.cursor r.state).1
-  met_rule part more none is =
-      (met_tied IsAny (Alike N) (Alike F) (Alike B) m m parts r.top.cursor r.state r.state (fresh_by r.top.cursor.begun (q.fresh part more none is))).1
+  met_rule part more none is = grind (arith, met_tied, fresh_by)
 
   part_rule : (part : LinePart (List ℕ)) (more : List (LinePart (List ℕ))) → r.top.region ≡ None → r.top.parts ≡ part ∷ more → Q (part_next l m part more r.top r.under r.state)
   unfolding part_next step_guard step_block step_region after_part at
@@ -175,10 +174,7 @@ module _ {S : Type 0} (K : Kind → Type 0) (N F B G : S → Type 0) (l : Langua
     turn_rule : (t : Turning) → r.top.turning ≡ Some t → (left : ℕ) → t.left ≡ left → (s : S) → B s → Q (turn_next l left r.top.kind t g gs s)
     unfolding turn_next
     turn_rule t e zero i s b = q.over g gs is s b
-    turn_rule t e (suc left) i s b =
-        let v = l.turn r.top.kind t.condition s in
-        let h = p.turn r.top.kind t.condition s b in
-        turned_rule t left e i v.0 v.1 h.0 h.1
+    turn_rule t e (suc left) i s b = grind (arith, turned_rule)
 
     last_rule : (begun : Bool) (a : At S) → B a.state → B (finish_if l begun a)
     unfolding finish_if finish_at
@@ -204,8 +200,7 @@ module _ {S : Type 0} (K : Kind → Type 0) (N F B G : S → Type 0) (l : Langua
   in_rule None (part ∷ more) lines a b c x e = same_rule (part_next l m part more r.top r.under r.state) x (part_rule part more a b) e
   in_rule None [] (line ∷ more) a b c x e = same_rule (line_next l m line more r.top r.under r.state) x (line_rule line more c b) e
   in_rule None [] [] a b c x e = source_rule r.under refl (record { place = record { region = None; levels = r.top.cursor.levels }; state = r.state }) q.base x e
-  in_rule (Some o) ps (line ∷ more) a b c x e =
-      same_rule (region_next l m (is_ending o.ending line) o line more r.top r.under r.state) x (region_rule line more c (is_ending o.ending line) o) e
+  in_rule (Some o) ps (line ∷ more) a b c x e = grind (arith, same_rule, region_rule)
   in_rule (Some o) ps [] a b c x e =
       source_rule r.under refl (record { place = record { region = Some o; levels = r.top.cursor.levels }; state = r.state }) q.base x e
 

@@ -1,5 +1,5 @@
 -- Two sources side by side: states that are tied stay tied. Helpers of proofs.
-use Rattle.std.proofs.Common.{◌≡◌, ℕ, zero, suc, Bool, true, false, List, [], ◌∷◌, length, Option, Some, None, refl, sym, ap, ◌∙◌, subst}
+use Rattle.std.proofs.Common.{◌≡◌, ℕ, zero, suc, Bool, true, false, List, [], ◌∷◌, length, Option, Some, None, refl, sym, ap, ◌∙◌, subst, arith}
 use Rattle.page_roff_heads.specs.declared.conditions.Condition.{Condition}
 use Rattle.page_roff_heads.specs.declared.loops.LoopHead.{LoopHead}
 use Rattle.page_roff_blocks.specs.declared.line_parts.LinePart.{LinePart}
@@ -56,8 +56,7 @@ of_one B true s t h = h
 of_one B false s t h = h
 
 pub same_at : {S : Type 0} (a b : At S) → BothAt (λ s t. s ≡ t) a b → a ≡ b
-same_at {S} a b h =
-    ap (λ (s : S). record { place = a.place; state = s }) h.1 ∙ ap (λ (place : SourcePlace). record { place = place; state = b.state }) h.0
+same_at {S} a b h = grind arith
 
 -- Of lines whose leaves are such: `N` ties states where a line began, `F` where a part is run, and `B` after it.
 pub record TiesParts {S Q : Type 0} (T : List ℕ → Type 0) (N F B : S → Q → Type 0) (m : Meaning S) (n : Meaning Q) : Type 0 where
@@ -99,11 +98,7 @@ module _ {S Q : Type 0} (T : List ℕ → Type 0) (N F B : S → Q → Type 0) (
   -- what is done with a part that is met
   after_met : {V W : Type 0} (Z : V → W → Type 0) (x : Bool → S → V) (y : Bool → Q → W) → ((is_met : Bool) (s : S) (t : Q) → Ties F B is_met s t → Z (x is_met s) (y is_met t))
       → (cursor : BlockCursor) (s : S) (t : Q) → Ties B N cursor.begun s t → Z (x (met m cursor s).0 (met m cursor s).1) (y (met n cursor t).0 (met n cursor t).1)
-  after_met Z x y then cursor s t h =
-      let q = met m cursor s in
-      let p = met n cursor t in
-      let e = met_tied cursor s t h in
-      subst (λ (is_met : Bool). Z (x q.0 q.1) (y is_met p.1)) e.0 (then q.0 q.1 p.1 e.1)
+  after_met Z x y then cursor s t h = grind (arith, met_tied)
 
   value_tied : (branch : Branch (List ℕ)) (bit : Bool) (s : S) (t : Q) → F s t → Both B (value m branch bit s) (value n branch bit t)
   unfolding value
@@ -127,9 +122,7 @@ module _ {S Q : Type 0} (T : List ℕ → Type 0) (N F B : S → Q → Type 0) (
 
   with_tied : (h : Head (List ℕ)) (cursor : BlockCursor) (v : Bool × S) (w : Bool × Q) → Both B v w → Next B (block_with m h cursor v) (block_with n h cursor w)
   unfolding block_with after_part
-  with_tied h cursor v w r =
-      subst (λ (bit : Bool). Next B (block_with m h cursor v) (block_with n h cursor (bit, w.1))) r.0
-      (refl, refl, refuse_tied (way_of v.0 (length cursor.levels.outer)) h v.1 w.1 r.1)
+  with_tied h cursor v w r = grind (arith, refuse_tied)
 
   opening_tied : (opening : Opening (List ℕ)) (cursor : BlockCursor) (s : S) (t : Q) → IsOpening T opening → F s t
       → Next B (opening_met m opening cursor s) (opening_met n opening cursor t)

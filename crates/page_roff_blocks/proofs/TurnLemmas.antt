@@ -52,10 +52,7 @@ module _ {R : Type 0} (e : Effects R) where
     unfolding turns
     same_turns n zero b s h k x = absurd (omega arith)
     same_turns n (suc a) zero s h k x = absurd (omega arith)
-    same_turns zero (suc a) (suc b) s h k x =
-        let v = (language e).turn kind condition s in
-        same_if v.0 (λ s. turns (language e) a run kind condition (run s)) (λ s. turns (language e) b run kind condition (run s)) v.1
-        (λ r. let t = turn_takes kind condition 0 s x r in absurd (omega arith))
+    same_turns zero (suc a) (suc b) s h k x = grind (arith, same_if, turn_takes)
     same_turns (suc n) (suc a) (suc b) s h k x =
         let v = (language e).turn kind condition s in
         same_if v.0 (λ s. turns (language e) a run kind condition (run s)) (λ s. turns (language e) b run kind condition (run s)) v.1
