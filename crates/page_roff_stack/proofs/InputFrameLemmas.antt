@@ -53,9 +53,7 @@ after_it a place cursor = record a { place = place; ahead = None; cursor = curso
 pub past_view : (a : InputFrame) (all text : List ℕ) (place : LinePlace) (cursor : BlockCursor) → text ≡ span_text a.line all → IsAfter text a.place place
     → frame_of (after_it a place cursor) all ≡ past cursor (frame_of a all)
 unfolding at_part
-past_view a all text place cursor e h =
-    let next = rw e at h.next in
-    ap (λ parts. let f : Frame = record { kind = (frame_of a all).kind; region = a.region; parts = parts; cursor = cursor; lines = (frame_of a all).lines; turning = (frame_of a all).turning } in f) next
+past_view a all text place cursor e h = grind arith
 
 past_bounded : (f : Frame) (cursor : BlockCursor) → cursor.levels.skipped + 2 * length (drop 1 f.parts) ≤ f.cursor.levels.skipped + 2 * length f.parts → IsBounded f → IsBounded (past cursor f)
 unfolding at_part work_in
@@ -69,8 +67,7 @@ pass_room passes.Leaf f h = omega (arith, length-drop 1 f.parts)
 pass_room (passes.Guard None) f h = omega (arith, length-drop 1 f.parts)
 pass_room (passes.Guard (Some a)) f h = omega (arith, length-drop 1 f.parts)
 pass_room (passes.Block None) f h = omega (arith, h, length-drop 1 f.parts)
-pass_room (passes.Block (Some a)) f h =
-    omega (arith, h, length-drop 1 f.parts, enter_room (way_of a.value (length f.cursor.levels.outer)) a.bit f.cursor.levels)
+pass_room (passes.Block (Some a)) f h = grind (arith, length-drop, enter_room)
 pass_room (passes.Loop true) f h = omega (arith, length-drop 1 f.parts)
 pass_room (passes.Loop false) f h = omega (arith, h, length-drop 1 f.parts)
 pass_room passes.End f h =
@@ -86,8 +83,7 @@ past_held a all text place pass cursor e r g p h =
 
 -- what was read changes nothing of what is seen
 pub ahead_held : (a : InputFrame) (all text : List ℕ) (ahead : LinePlace) → text ≡ span_text a.line all → IsAfter text a.place ahead → IsHeld a all → IsHeld (record a { ahead = Some ahead }) all
-ahead_held a all text ahead e r h =
-    moved_held a all a.line a.place (Some ahead) a.lines a.region a.cursor h.line h.short h.place (rw e at r) h.lines h.only h.bounds h
+ahead_held a all text ahead e r h = grind (arith, moved_held)
 
 -- ---- the rest of the present line is passed
 
@@ -180,13 +176,7 @@ outside_regions (Some o) parts lines e = cc
 pub begun_view : (a : InputFrame) (all : List ℕ) (line : Span) (place : LinePlace) (lines : Span) (cursor : BlockCursor) → IsPassed a all line lines → begins_line (frame_of a all) ≡ true
     → IsStart (span_text line all) place → cursor ≡ at_line a.cursor.levels
     → frame_of (lined a line place lines a.region cursor) all ≡ next_line None (first_line_parts (frame_of a all).lines) (frame_of a all)
-begun_view a all line place lines cursor h b e g =
-    let outside = outside_regions a.region (frame_of a all).parts (frame_of a all).lines b in
-    let p = outside.1 in
-    rw (e.parts, g, h.rest, outside.0) (
-    ap (λ parts. let f : Frame = record { kind = (frame_of a all).kind; region = None; parts = parts; cursor = at_line a.cursor.levels; lines = drop 1 (frame_of a all).lines; turning = (frame_of a all).turning } in f)
-    (first_parts (frame_of a all).lines (span_text line all) p h.first)
-    )
+begun_view a all line place lines cursor h b e g = grind (arith, outside_regions, first_parts)
 
 pub begun_held : (a : InputFrame) (all : List ℕ) (line : Span) (place : LinePlace) (lines : Span) (cursor : BlockCursor) → IsPassed a all line lines → begins_line (frame_of a all) ≡ true
     → IsStart (span_text line all) place → cursor ≡ at_line a.cursor.levels → IsHeld a all → IsHeld (lined a line place lines a.region cursor) all
@@ -218,8 +208,7 @@ skipped_held a all line place lines cursor h e g held =
 -- a region ends
 pub ended_held : (a : InputFrame) (all : List ℕ) → IsHeld a all → IsHeld (record a { region = None }) all
 unfolding work_in
-ended_held a all h =
-    moved_held a all a.line a.place a.ahead a.lines None a.cursor h.line h.short h.place h.ahead h.lines h.only (record { short = h.bounds.short; skips = h.bounds.skips }) h
+ended_held a all h = grind (arith, moved_held)
 
 -- ---- the line that comes next
 
@@ -280,7 +269,7 @@ pub not_in_region : (a : InputFrame) (all : List ℕ) → is_some a.region ≡ t
 not_in_region a all e = begins_region a.region (frame_of a all).parts (frame_of a all).lines e
 
 pub not_in_line : (a : InputFrame) (all : List ℕ) → is_at_end a.place ≡ false → false ≡ begins_line (frame_of a all)
-not_in_line a all e = begins_part a.region (frame_of a all).parts (frame_of a all).lines (some_parts (span_text a.line all) a.place e)
+not_in_line a all e = grind (arith, begins_part, some_parts)
 
 pub begins_here : (a : InputFrame) (all : List ℕ) → is_some a.region ≡ false → is_at_end a.place ≡ true → IsSpanIn a.lines all
     → nat_lt a.lines.start a.lines.end ≡ begins_line (frame_of a all)
@@ -316,10 +305,7 @@ lines_none : (a : InputFrame) (all : List ℕ) → a.lines.end ≤ a.lines.start
 lines_none a all p h = grind (arith, nat_tests, span_len a.lines all h, no_lines (span_text a.lines all))
 
 pub lines_here : (a : InputFrame) (all : List ℕ) → a.lines.start < a.lines.end → IsSpanIn a.lines all → false ≡ is_over (frame_of a all)
-lines_here a all p h =
-    let k = span_len a.lines all h in
-    let n : 0 < length (span_text a.lines all) = omega arith in
-    lines_left a.region (frame_of a all).parts (frame_of a all).lines (some_line (span_text a.lines all) (grind (arith, nat_tests)))
+lines_here a all p h = grind (arith, span_len, lines_left, some_line)
 
 pub over_region : (a : InputFrame) (all : List ℕ) → is_some a.region ≡ true → a.lines.end ≤ a.lines.start → IsSpanIn a.lines all → true ≡ is_over (frame_of a all)
 over_region a all e p h = rw (lines_none a all p h) (region_over a.region (frame_of a all).parts e)

@@ -36,16 +36,7 @@ went_kind _ f = refl
 -- the innermost source changes, but not what it is
 pub top_held : (a : Inside) (top : InputFrame) (text : List ℕ) → text ≡ a.text.items → IsHeld top text → (frame_of top text).kind ≡ (frame_of a.top text).kind → IsStack a
     → IsStack (record a { top = top })
-top_held a top text t held kind h =
-    let same : (frame_of top a.text.items).kind ≡ (frame_of a.top a.text.items).kind = rw t at kind in
-    record {
-      page = rw same h.page;
-      top = rw t at held;
-      around = h.around;
-      deep = h.deep;
-      room = h.room;
-      calls = h.calls;
-    }
+top_held a top text t held kind h = grind arith
 
 -- ---- whether one more macro may run
 
@@ -67,14 +58,10 @@ empty_of [] e = refl
 empty_of (x ∷ xs) e = absurd (omega (arith, e))
 
 pub none_around : (a : Inside) (n : ℕ) → n ≡ length a.callers.items → (n == 0) ≡ true → (stack_of a).under ≡ []
-none_around a n e t =
-    let k : n ≡ 0 = grind (arith, nat_tests) in
-    empty_of (stack_of a).under (under_len a ∙ sym e ∙ k)
+none_around a n e t = grind (arith, empty_of, under_len)
 
 pub some_around : (a : Inside) (n : ℕ) → n ≡ length a.callers.items → (n == 0) ≡ false → 0 < length (stack_of a).under
-some_around a n e t =
-    let k : 0 < n = grind (arith, nat_tests) in
-    omega (arith, under_len a, e, k)
+some_around a n e t = grind (arith, under_len)
 
 -- no source is around
 pub callers_none : (a : Inside) → (stack_of a).under ≡ [] → a.callers.items ≡ []
@@ -91,19 +78,15 @@ around_one callers caller = reverse-append callers (caller ∷ [])
 -- the text goes on after that of the source that calls
 pub deeper : (callers : List Caller) (caller : Caller) (text more : List ℕ) → caller.end ≡ length text
     → frames_in (text ++ more) (reverse (callers ++ (caller ∷ []))) ≡ frame_of caller.source text ∷ frames_in text (reverse callers)
-deeper callers caller text more e =
-    rw (around_one callers caller, e, take-append_seam text more) refl
+deeper callers caller text more e = grind (arith, around_one, take-append_seam)
 
 pub deeper_held : (callers : List Caller) (caller : Caller) (text more : List ℕ) → caller.end ≡ length text → length more ≤ BODY + ARGS
     → IsHeld caller.source text → AreHeld text (reverse callers) → AreHeld (text ++ more) (reverse (callers ++ (caller ∷ [])))
-deeper_held callers caller text more e p held around =
-    let n = length-append text more in
-    rw (around_one callers caller, e, take-append_seam text more) (omega (arith, n), omega (arith, n, p), held, around)
+deeper_held callers caller text more e p held around = grind (arith, length-append, around_one, take-append_seam)
 
 deeper_texts : (callers : List Caller) (caller : Caller) (text more : List ℕ) → caller.end ≡ length text
     → texts_in (text ++ more) (reverse (callers ++ (caller ∷ []))) ≡ more ∷ texts_in text (reverse callers)
-deeper_texts callers caller text more e =
-    rw (around_one callers caller, e, take-append_seam text more, drop-append_seam text more) refl
+deeper_texts callers caller text more e = grind (arith, around_one, take-append_seam, drop-append_seam)
 
 -- ---- what is held of the macros that run
 
@@ -124,9 +107,7 @@ texts_are a = texts_len a.text.items (reverse a.callers.items) ∙ length-revers
 
 texts_each : (text : List ℕ) (callers : List Caller) → AreHeld text callers → All (λ t. length t ≤ BODY + ARGS) (texts_in text callers)
 texts_each text [] h = All-nil (λ t. length t ≤ BODY + ARGS)
-texts_each text (c ∷ cs) h =
-    All-cons (λ t. length t ≤ BODY + ARGS) (drop c.end text) (texts_in (take c.end text) cs) (omega (arith, h.1, length-drop c.end text))
-    (texts_each (take c.end text) cs h.3)
+texts_each text (c ∷ cs) h = grind (arith, All-cons, length-drop, texts_each (take c.end text) cs h.3)
 
 texts_short : (a : Inside) → IsStack a → All (λ t. length t ≤ BODY + ARGS) (stack_of a).texts
 texts_short a h = texts_each a.text.items (reverse a.callers.items) h.around
@@ -141,17 +122,7 @@ pub line_set : (a b : Inside) (line : List ℕ) → b.callers.items ≡ [] → C
     → frame_of b.top b.text.items ≡ page_line line (frame_of a.top a.text.items) → length b.text.items ≤ LINE + 1 → room_for CALLS ≤ vec_capacity b.text
     → let new : Stack = record { top = page_line line (frame_of a.top a.text.items); under = []; texts = [] } in
     IsStack b × (stack_of b ≡ new)
-line_set a b line none calls held frame fits room = (
-  record {
-    page = rw none (ap (λ f. is_page f.kind) frame);
-    top = held;
-    around = rw none fits;
-    deep = rw none (omega arith);
-    room = room;
-    calls = calls;
-  },
-  rw none (ap (λ f. let t : Stack = record { top = f; under = []; texts = [] } in t) frame),
-)
+line_set a b line none calls held frame fits room = grind (arith, fits)
 
 -- where no source is around it, the innermost one is the page
 page_kind : (kind : Kind) → is_page kind ≡ true → kind ≡ page
@@ -159,27 +130,14 @@ page_kind page e = refl
 page_kind (body args) e = cc
 
 pub page_of : (a : Inside) → a.callers.items ≡ [] → IsStack a → kind_in a.top.kind a.text.items ≡ page
-page_of a none h =
-    let alone : AreStacked (kind_in a.top.kind a.text.items) [] = rw none at h.page in
-    page_kind (kind_in a.top.kind a.text.items) alone
+page_of a none h = grind (arith, page_kind)
 
 -- the text stays
 pub line_passed : (a b : Inside) → a.callers.items ≡ [] → b.text ≡ a.text → b.callers ≡ a.callers → IsStack a → IsHeld b.top a.text.items
     → frame_of b.top a.text.items ≡ page_passed (frame_of a.top a.text.items)
     → let new : Stack = record { top = page_passed (frame_of a.top a.text.items); under = []; texts = [] } in
     IsStack b × (stack_of b ≡ new)
-line_passed a b none text callers h held frame =
-    let fits : length a.text.items ≤ LINE + 1 = rw none at h.around in (
-      record {
-        page = rw (text, callers, none) (ap (λ f. is_page f.kind) frame);
-        top = rw text held;
-        around = rw (text, callers, none) fits;
-        deep = rw callers h.deep;
-        room = rw text h.room;
-        calls = rw callers h.calls;
-      },
-      rw (text, callers, none) (ap (λ f. let t : Stack = record { top = f; under = []; texts = [] } in t) frame),
-    )
+line_passed a b none text callers h held frame = grind (arith, fits)
 
 -- ---- a call
 
@@ -201,9 +159,7 @@ pub record IsCalled (a b : Inside) (caller : Caller) (more : List ℕ) : Type 0 
   pub calls : CALLS ≤ vec_capacity b.callers
 
 called_under : (a b : Inside) (caller : Caller) (more : List ℕ) → IsCalled a b caller more → (stack_of b).under ≡ frame_of a.top a.text.items ∷ (stack_of a).under
-called_under a b caller more c =
-    rw (c.callers, c.text) (deeper a.callers.items caller a.text.items more c.end)
-    ∙ ap (λ source. frame_of source a.text.items ∷ (stack_of a).under) c.source
+called_under a b caller more c = grind (arith, deeper)
 
 called_texts : (a b : Inside) (caller : Caller) (more : List ℕ) → IsCalled a b caller more → (stack_of b).texts ≡ more ∷ (stack_of a).texts
 called_texts a b caller more c = rw (c.callers, c.text) (deeper_texts a.callers.items caller a.text.items more c.end)
@@ -215,18 +171,7 @@ called_stack a b caller text packed c frame = rw (frame, called_under a b caller
 pub looped_stack : (a b : Inside) (caller : Caller) (text : List ℕ) (packed : Option (List ℕ)) → IsCalled a b caller (text ++ packed_text packed)
     → frame_of b.top b.text.items ≡ looped (body (unpacked packed)) (first_text (lines_in text)) (drop 1 (lines_in text))
     → stack_of b ≡ loop_of text packed (stack_of a)
-looped_stack a b caller text packed c frame =
-    rw (frame, called_under a b caller (text ++ packed_text packed) c, called_texts a b caller (text ++ packed_text packed) c) refl
+looped_stack a b caller text packed c frame = grind (arith, called_under, called_texts)
 
 pub called_held : (a b : Inside) (caller : Caller) (more : List ℕ) → IsCalled a b caller more → length a.callers.items < CALLS → IsStack a → IsStack b
-called_held a b caller more c p h =
-    let n = length-append a.callers.items (caller ∷ []) in
-    let held : IsHeld caller.source a.text.items = rw c.source h.top in
-    record {
-      page = rw (called_under a b caller more c) h.page;
-      top = c.held;
-      around = rw (c.callers, c.text) (deeper_held a.callers.items caller a.text.items more c.end c.short held h.around);
-      deep = omega (arith, ap length c.callers, n, p);
-      room = c.room;
-      calls = c.calls;
-    }
+called_held a b caller more c p h = grind (arith, length-append, called_under, deeper_held)

@@ -33,11 +33,7 @@ no_text = refl
 pub whole_line : (text : List ℕ) (n : ℕ) → lines_in text ≡ only_line text → n ≡ length text - 1
     → IsFirstLine (lines_in text) (take n text) × (lines_in (drop (n + 1) text) ≡ drop 1 (lines_in text))
 whole_line [] n h e = (rw no_text tt, rw (drop_all {X = ℕ} (n + 1) [] (omega arith), no_text) refl)
-whole_line (byte ∷ bytes) n h e =
-    let text = byte ∷ bytes in
-    let k : n ≡ length bytes = omega (arith, e) in
-    let none = drop_all (n + 1) text (omega (arith, k)) in
-    (rw (h, k) refl, rw (none, h, no_text) refl)
+whole_line (byte ∷ bytes) n h e = grind (arith, drop_all, no_text)
 
 -- ---- the lines of a body are no longer than the body, and their weight is bounded
 
@@ -108,9 +104,7 @@ page_line_in before (byte ∷ bytes) e =
 -- ---- spans
 
 pub span_len : (span : Span) (text : List ℕ) → IsSpanIn span text → length (span_text span text) ≡ span.end - span.start
-span_len span text h =
-    let l = length-drop span.start text in
-    length-take-le (span.end - span.start) (drop span.start text) (omega (arith, l, h.0, h.1))
+span_len span text h = grind (arith, length-drop, length-take-le)
 
 -- what is left of a span after its first bytes
 pub span_drop : (start end n : ℕ) (text : List ℕ) → start + n ≤ end
@@ -126,16 +120,11 @@ length-take-at-most n xs = omega (arith, length-take n xs)
 -- the first line and a line feed are passed, or all of the span
 pub rest_before : (start end len : ℕ) (text : List ℕ) → start + len < end
     → lines_in (drop (len + 1) (take (end - start) (drop start text))) ≡ lines_in (take (end - (start + len + 1)) (drop (start + len + 1) text))
-rest_before start end len text p =
-    let e : start + (len + 1) ≡ start + len + 1 = omega arith in
-    ap lines_in (span_drop start end (len + 1) text (omega arith) ∙ ap (λ k. take (end - k) (drop k text)) e)
+rest_before start end len text p = grind (arith, span_drop)
 
 pub rest_none : (start end len : ℕ) (text : List ℕ) → end ≤ start + len
     → lines_in (drop (len + 1) (take (end - start) (drop start text))) ≡ lines_in (take (end - end) (drop end text))
-rest_none start end len text p =
-    let l = length-take-at-most (end - start) (drop start text) in
-    let e : end - end ≡ 0 = omega arith in
-    ap lines_in (drop_all (len + 1) (take (end - start) (drop start text)) (omega (arith, l, p)) ∙ sym (ap (λ k. take k (drop end text)) e))
+rest_none start end len text p = grind (arith, length-take-at-most, drop_all)
 
 -- ---- whether there is a line
 

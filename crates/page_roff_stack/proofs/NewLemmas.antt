@@ -41,10 +41,7 @@ length_after : (before lines : List ℕ) → length (before ++ lines) - length b
 length_after before lines = omega (arith, length-append before lines)
 
 new_view : (a : InputFrame) (all before lines : List ℕ) → IsNew a all before lines → frame_of a all ≡ frame (kind_in a.kind all) a.region a.cursor (lines_in lines) (turning_in a.turning all)
-new_view a all before lines h =
-    rw (h.place, h.lines_are) (
-    ap (λ text. frame (kind_in a.kind all) a.region a.cursor (lines_in text) (turning_in a.turning all)) (ap (λ n. take n (drop (length before) all)) (length_after before lines) ∙ h.front)
-    )
+new_view a all before lines h = grind (arith, length_after)
 
 new_held : (a : InputFrame) (all before lines : List ℕ) → IsNew a all before lines → AreLinesOf a.kind lines → IsBounded (frame_of a all) → IsHeld a all
 new_held a all before lines h o b =
@@ -82,9 +79,7 @@ unfolding work_in weight
 line_bounded region cursor line p s = record { short = (p, tt); skips = omega arith }
 
 line_view : (a : InputFrame) (all line : List ℕ) → IsLine line → IsNew a all [] (line ++ (10 ∷ [])) → a.kind ≡ sources.Page → a.turning ≡ None → frame_of a all ≡ frame page a.region a.cursor (line ∷ []) None
-line_view a all line h n e t =
-    new_view a all [] (line ++ (10 ∷ [])) n
-    ∙ rw (e, t) (ap (λ lines. frame page a.region a.cursor lines None) (page_line_in 0 line h.plain))
+line_view a all line h n e t = grind (arith, new_view, page_line_in)
 
 line_only : (line : List ℕ) → only_line (line ++ (10 ∷ [])) ≡ line ∷ []
 line_only [] = refl
@@ -95,10 +90,7 @@ line_only (byte ∷ bytes) =
 -- a line of the page is to come
 pub page_set : (a : InputFrame) (all line : List ℕ) → IsLine line → IsNew a all [] (line ++ (10 ∷ [])) → a.kind ≡ sources.Page → a.turning ≡ None → a.cursor.levels.skipped < 2 ^ 62
     → IsHeld a all × (frame_of a all ≡ frame page a.region a.cursor (line ∷ []) None)
-page_set a all line h n e t s =
-    let view = line_view a all line h n e t in
-    let only : AreLinesOf a.kind (line ++ (10 ∷ [])) = rw e (page_line_in 0 line h.plain ∙ sym (line_only line)) in
-    (new_held a all [] (line ++ (10 ∷ [])) n only (rw view (line_bounded a.region a.cursor line h.bounded s)), view)
+page_set a all line h n e t s = grind (arith, line_view, page_line_in, line_only, new_held, line_bounded)
 
 -- ---- a macro
 
@@ -110,9 +102,7 @@ body_view : (a : InputFrame) (all before text args : List ℕ) → IsNew a all b
     → drop (length (before ++ text)) all ≡ args → a.region ≡ None → a.cursor ≡ at_line outside → a.turning ≡ None
     → frame_of a all ≡ entered (lines_in text) (arguments_in args)
 unfolding entered
-body_view a all before text args n e d r s t =
-    new_view a all before text n
-    ∙ rw (e, d, r, s, t) refl
+body_view a all before text args n e d r s t = grind (arith, new_view)
 
 -- a macro begins
 pub body_set : (a : InputFrame) (all before text args : List ℕ) → IsNew a all before text → a.kind ≡ sources.Body (Some (length (before ++ text)))
@@ -136,10 +126,7 @@ empty_only = refl
 pub empty_set : (a : InputFrame) → a.kind ≡ sources.Page → a.line ≡ span 0 0 → a.place ≡ line_end → a.ahead ≡ None → a.lines ≡ span 0 0 → a.region ≡ None → a.cursor ≡ at_line outside
     → a.turning ≡ None → IsHeld a [] × (frame_of a [] ≡ frame page None (at_line outside) [] None)
 unfolding arguments_in
-empty_set a e l p k n r s t =
-    let new = new_of a [] [] [] [] refl l p k n (rw e tt) (rw t tt) in
-    let view : frame_of a [] ≡ frame page None (at_line outside) [] None = new_view a [] [] [] new ∙ rw (e, r, s, t) refl in
-    (new_held a [] [] [] new (rw e empty_only) (rw view (empty_bounded page None)), view)
+empty_set a e l p k n r s t = grind (arith, new_of, new_view, new_held, empty_only, empty_bounded)
 
 -- the page between two lines
 place_bounded : (region : Option Opened) (cursor : BlockCursor) → cursor.levels.skipped < 2 ^ 62 → IsBounded (frame page region cursor [] None)
@@ -149,10 +136,7 @@ place_bounded region cursor s = record { short = tt; skips = omega (arith, s) }
 pub place_set : (a : InputFrame) (all : List ℕ) → a.kind ≡ sources.Page → a.line ≡ span 0 0 → a.place ≡ line_end → a.ahead ≡ None → a.lines ≡ span 0 0
     → a.turning ≡ None → a.cursor.levels.skipped < 2 ^ 62 → IsHeld a all × (frame_of a all ≡ frame page a.region a.cursor [] None)
 unfolding arguments_in
-place_set a all e l p k n t s =
-    let new = new_of a all [] [] all refl l p k n (rw e tt) (rw t tt) in
-    let view : frame_of a all ≡ frame page a.region a.cursor [] None = new_view a all [] [] new ∙ rw (e, t) refl in
-    (new_held a all [] [] new (rw e empty_only) (rw view (place_bounded a.region a.cursor s)), view)
+place_set a all e l p k n t s = grind (arith, new_of, new_view, new_held, empty_only, place_bounded)
 
 pub page_none : (kind : SourceKind) (text : List ℕ) → kind_in kind text ≡ page → kind ≡ sources.Page
 page_none sources.Page text e = refl
@@ -168,8 +152,4 @@ pub loop_set : (a : InputFrame) (all condition : List ℕ) (lines : List (List �
     → kind_in a.kind all ≡ body args → AreLinesOf a.kind [] → a.region ≡ None → a.cursor ≡ at_line outside
     → turning_in a.turning all ≡ Some (unturned condition lines) → IsHeld a all × (frame_of a all ≡ looped (body args) condition lines)
 unfolding looped inner
-loop_set a all condition lines args n e o r s t =
-    let view : frame_of a all ≡ frame (body args) None (at_line outside) [] (Some (unturned condition lines)) =
-    new_view a all [] [] n ∙ rw (e, r, s, t) (ap (λ texts. frame (body args) None (at_line outside) texts (Some (unturned condition lines))) no_text)
-    in
-    (new_held a all [] [] n o (rw view (empty_bounded (body args) (Some (unturned condition lines)))), view)
+loop_set a all condition lines args n e o r s t = grind (arith, new_view, no_text, new_held, empty_bounded)

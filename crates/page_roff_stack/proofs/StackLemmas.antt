@@ -23,8 +23,7 @@ turns_step : {S : Type 0} (l : Language S) (m : Meaning S) (t : Turning) (left :
     → Some (machine.turn_next l left f.kind t g gs (machine.finish_if l t.begun (end_of region f s))) ≡ step_in l m (turn_or_end (turn_left left t.condition) region t.begun) parts lines f (g ∷ gs) s
 unfolding step_in machine.turn_next
 turns_step l m t zero region parts lines f g gs s e h = refl
-turns_step l m t (suc n) region parts lines f g gs s e h =
-    let v = l.turn f.kind t.condition (machine.finish_if l t.begun (end_of region f s)) in turn_step l t n v.0 f g gs v.1 e h
+turns_step l m t (suc n) region parts lines f g gs s e h = grind (arith, turn_step)
 
 end_step : {S : Type 0} (l : Language S) (m : Meaning S) (turning : Option Turning) (region : Option Opened) (parts : List (LinePart (List ℕ))) (lines : List (List ℕ)) (f g : Frame) (gs : List Frame) (s : S)
     → f.turning ≡ turning

@@ -42,8 +42,7 @@ lines_bounded f text e p s n =
     }
 
 after_held : (kind : SourceKind) (t after : Turns) (all : List ℕ) → after ≡ after_begin t → AreTurns kind t all → AreTurns kind after all
-after_held kind t after all e h =
-    rw e (record { condition = h.condition; lines = h.lines; only = h.only; short = h.short; bounded = h.bounded })
+after_held kind t after all e h = grind arith
 
 held_turns : (kind : SourceKind) (turning : Option Turns) (t : Turns) (all : List ℕ) → turning ≡ Some t → AreTurnsIn kind turning all → AreTurns kind t all
 held_turns kind turning t all e h = rw e at h
@@ -99,24 +98,11 @@ module _ (before more rest all : List ℕ) (lines first others : Span) (h : IsLo
       ∙ ap (λ text. take (length more) text) (drop-append_seam before (more ++ rest)) ∙ take-append_seam more rest)
 
   pub loop_condition : span_text first all ≡ first_text (lines_in more)
-  loop_condition =
-      let is_first : IsFirstLine (lines_in more) (span_text first all) = rw loop_text at h.first_is in
-      let l = span_len first all h.first_within in
-      let n = length-append before more in
-      first_of_lines (lines_in more) (span_text first all) is_first
-      (λ e. let k = no_line more e in omega (arith, k, l, n, h.start, h.end, h.cut.begins, h.cut.first_within))
+  loop_condition = grind (arith, loop_text, span_len, length-append, first_of_lines, no_line)
 
   pub loop_lines : lines_in (span_text others all) ≡ drop 1 (lines_in more)
   loop_lines = h.others_are ∙ ap (λ text. drop 1 (lines_in text)) loop_text
 
   pub loop_turns : (arguments : Option ℕ) (left : ℕ)
       → AreTurns (sources.Body arguments) (record { condition = first; lines = others; left = left; begun = false }) all
-  loop_turns arguments left =
-      let n = length-append before more in
-      record {
-        condition = h.first_within;
-        lines = h.others_within;
-        only = tt;
-        short = omega (arith, n, h.short, h.start, h.end, h.cut.begins, h.cut.first_within);
-        bounded = omega (arith, n, h.short, h.start, h.end, h.cut.others_within, h.cut.ends);
-      }
+  loop_turns arguments left = grind (arith, length-append)
