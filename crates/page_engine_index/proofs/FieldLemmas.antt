@@ -68,8 +68,7 @@ entry_two Two line names rest h e f = sym (entry_parts Two line h ∙ ap (entry_
 pub entry_last : (version : Version) (line names rest section last : List ℕ) (fields : Option (List ℕ × List ℕ)) → length line ≤ LINE
     → slice_split is_tab line ≡ names ∷ slice_split is_tab rest → slice_split is_tab rest ≡ section ∷ slice_split is_tab last
     → AreLast version (slice_split is_tab last) fields → entry_of_last names section fields ≡ entry_of version line
-entry_last version line names rest section last fields h e f k =
-    sym (entry_parts version line h ∙ (ap (entry_in version) (e ∙ ap (λ l. names ∷ l) f) ∙ k names section))
+entry_last version line names rest section last fields h e f k = grind (arith, entry_parts)
 
 -- ---- from a place on
 

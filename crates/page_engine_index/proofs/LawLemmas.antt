@@ -1,12 +1,11 @@
 -- What the test of a word says, and what an index that was written holds.
-use Rattle.std.proofs.Common.{◌≡◌, ℕ, suc, ◌+◌, ◌&&◌, ◌||◌, not, Bool, true, false, List, [], ◌∷◌, ◌++◌, length, take, drop, map, Some, None, nat_le, codes, refl, sym, ap, ◌∙◌, arith, inl, inr, append_assoc, append-nil, length-append}
+use Rattle.std.proofs.Common.{◌≡◌, ℕ, suc, ◌+◌, ◌&&◌, ◌||◌, not, Bool, true, false, List, [], ◌∷◌, ◌++◌, length, take, drop, map, Some, None, codes, refl, sym, ap, ◌∙◌, arith, inl, inr, append_assoc, append-nil, length-append}
 use Rattle.std.specs.List.{flat_map, list_any, slice_split}
 use Rattle.std.specs.Str.{bytes_eq}
 use Rattle.std.proofs.lemmas.Bool.{cases_Bool, false≢true, le-leb}
 use Rattle.std.proofs.lemmas.List.{take-append-drop, take_at}
 use Rattle.std.proofs.lemmas.Slice.Eq.{bytes_eq-Decides}
-use Rattle.page_core_base.specs.declared.limits.TheConstants.{LINE}
-use Rattle.page_engine_index.specs.Entries.{Line, Entry, Index, all_read, with_entries, entry_in, entry_of, index, index_from, is_line_feed, is_tab, lines, version_of}
+use Rattle.page_engine_index.specs.Entries.{Line, Entry, Index, all_read, with_entries, entry_of, index, index_from, is_line_feed, is_tab, lines, version_of}
 use Rattle.page_engine_index.specs.Matches.{IsMatch, begins_word, ends_word, folded, is_match, is_word_byte, matches_here, matches_in}
 use Rattle.page_engine_index.specs.Records.{AreKept, IsKept, entry_line, is_end}
 use Rattle.page_engine_index.specs.declared.entries.Version.TheVariants.{Two}
@@ -79,12 +78,7 @@ drop_front (x ∷ xs) ys = drop_front xs ys
 
 here_complete : (word : List ℕ) (before : Bool) (found rest : List ℕ) → folded found ≡ folded word → before ≡ false → begins_word rest ≡ false
     → matches_here word before (found ++ rest) ≡ true
-here_complete word before found rest same left right =
-    let len : length found ≡ length word = sym (length-folded found) ∙ (ap length same ∙ length-folded word) in
-    let front : take (length word) (found ++ rest) ≡ found = take_at found rest (length word) len in
-    let back : drop (length word) (found ++ rest) ≡ rest = ap (λ n. drop n (found ++ rest)) (sym len) ∙ drop_front found rest in
-    let eq = (bytes_eq-Decides (folded found) (folded word)).1 same in
-    rw (left, front, back, eq, right) refl
+here_complete word before found rest same left right = grind (arith, length-folded, take_at, drop_front, bytes_eq-Decides)
 
 in_here : (word : List ℕ) (before : Bool) (text : List ℕ) → matches_here word before text ≡ true → matches_in word before text ≡ true
 unfolding matches_in
@@ -99,9 +93,7 @@ in_complete : (word : List ℕ) (before : Bool) (front found rest : List ℕ) �
     → matches_in word before (front ++ (found ++ rest)) ≡ true
 unfolding matches_in
 in_complete word before [] found rest same left right = in_here word before (found ++ rest) (here_complete word before found rest same left right)
-in_complete word before (x ∷ xs) found rest same left right =
-    ap (λ (b : Bool). matches_here word before (x ∷ (xs ++ (found ++ rest))) || b) (in_complete word (is_word_byte x) xs found rest same left right)
-    ∙ or_true (matches_here word before (x ∷ (xs ++ (found ++ rest))))
+in_complete word before (x ∷ xs) found rest same left right = grind (arith, or_true, in_complete word (is_word_byte x) xs found rest same left right)
 
 pub match_complete : (word name : List ℕ) → IsMatch word name → is_match word name ≡ true
 match_complete word name m = ap (matches_in word false) m.parts ∙ in_complete word false m.before m.found m.after m.same m.left m.right
@@ -144,28 +136,19 @@ split_field (x ∷ xs) rest h =
 
 text_fields : (e : Entry) → IsKept e → slice_split is_tab (text_of e) ≡ e.names ∷ e.section ∷ e.description ∷ e.file ∷ []
 unfolding text_of
-text_fields e k =
-    split_field e.names _ k.names ∙ ap (λ l. e.names ∷ l) (split_field e.section _ k.section
-    ∙ ap (λ l. e.section ∷ l) (split_field e.description _ k.description ∙ ap (λ l. e.description ∷ l) (no_tab_of_end e.file k.file)))
+text_fields e k = grind (arith, split_field, no_tab_of_end)
 
 text_flat : (e : Entry) → IsKept e → HasNoFeed (text_of e)
 unfolding text_of
-text_flat e k =
-    let file = no_feed_of_end e.file k.file in
-    let description = no_feed-append e.description (9 ∷ e.file) (no_feed_of_end e.description k.description) file in
-    let section = no_feed-append e.section (9 ∷ (e.description ++ (9 ∷ e.file))) (no_feed_of_end e.section k.section) description in
-    no_feed-append e.names (9 ∷ (e.section ++ (9 ∷ (e.description ++ (9 ∷ e.file))))) (no_feed_of_end e.names k.names) section
+text_flat e k = grind (arith, no_feed_of_end, no_feed-append)
 
 text_entry : (e : Entry) → IsKept e → entry_of Two (text_of e) ≡ Some e
 unfolding entry_of
-text_entry e k =
-    let short : nat_le (length (text_of e)) LINE ≡ true = le-leb (length (text_of e)) LINE (omega (arith, k.short, line_length e)) in
-    rw short (ap (entry_in Two) (text_fields e k))
+text_entry e k = grind (arith, text_of, le-leb, line_length, text_fields)
 
 written_lines : (es : List Entry) → AreKept es → lines (flat_map entry_line es) ≡ map text_of es
 written_lines [] k = no_lines
-written_lines (e ∷ es) k =
-    ap lines (line_text e (flat_map entry_line es)) ∙ (lines_end (text_of e) (flat_map entry_line es) (text_flat e k.0) ∙ ap (λ (l : List Line). text_of e ∷ l) (written_lines es k.1))
+written_lines (e ∷ es) k = grind (arith, line_text, lines_end, text_of, text_flat, written_lines es k.1)
 
 index_next : (n : ℕ) (line : List ℕ) (later : List Line) (e : Entry) → entry_of Two line ≡ Some e
     → index_from (Some Two) n (line ∷ later) ≡ with_entries (e ∷ []) (index_from (Some Two) (n + 1) later)

@@ -1,5 +1,5 @@
 -- The lines of bytes that come part by part.
-use Rattle.std.proofs.Common.{◌≡◌, ℕ, ◌||◌, Bool, true, false, List, [], ◌∷◌, ◌++◌, refl, sym, ap, ◌∙◌, inl, inr}
+use Rattle.std.proofs.Common.{◌≡◌, ℕ, ◌||◌, Bool, true, false, List, [], ◌∷◌, ◌++◌, refl, sym, ap, ◌∙◌, inl, inr, arith}
 use Rattle.std.specs.Prelude.{if◌then◌else◌}
 use Rattle.std.specs.List.{All, list_any, onto_first}
 use Rattle.std.proofs.lemmas.Bool.{cases_Bool, false≢true}
@@ -154,8 +154,7 @@ open_no_feed (x ∷ xs) = open_no_feed_at x xs (whole_lines (x ∷ xs)) refl (op
 
 pub whole_end : (xs ys : List ℕ) → HasNoFeed xs → whole_lines (xs ++ 10 ∷ ys) ≡ xs ∷ whole_lines ys
 whole_end [] ys h = whole_feed 10 ys refl
-whole_end (x ∷ xs) ys h =
-    whole_byte x (xs ++ 10 ∷ ys) (left_false (is_line_feed x) _ h) ∙ ap (with_byte x) (whole_end xs ys (right_false (is_line_feed x) _ h))
+whole_end (x ∷ xs) ys h = grind (arith, whole_byte, left_false, right_false, whole_end xs ys (right_false (is_line_feed x) _ h))
 
 pub open_end : (xs ys : List ℕ) → HasNoFeed xs → open_line (xs ++ 10 ∷ ys) ≡ open_line ys
 open_end [] ys h = open_at 10 ys _ (whole_feed 10 ys refl)
@@ -163,8 +162,7 @@ open_end (x ∷ xs) ys h = open_at x (xs ++ 10 ∷ ys) _ (whole_end (x ∷ xs) y
 
 pub lines_end : (xs ys : List ℕ) → HasNoFeed xs → lines (xs ++ 10 ∷ ys) ≡ xs ∷ lines ys
 lines_end [] ys h = lines_feed 10 ys refl
-lines_end (x ∷ xs) ys h =
-    lines_byte x (xs ++ 10 ∷ ys) (left_false (is_line_feed x) _ h) ∙ ap (onto_first x) (lines_end xs ys (right_false (is_line_feed x) _ h))
+lines_end (x ∷ xs) ys h = grind (arith, lines_byte, left_false, right_false, lines_end xs ys (right_false (is_line_feed x) _ h))
 
 -- ---- a line that goes on
 
@@ -176,9 +174,7 @@ begun x (l ∷ ls) = (l, ls, refl)
 pub lines_begun : (x : ℕ) (xs ys : List ℕ) → HasNoFeed (x ∷ xs) → (z : Line) × (zs : List Line) × (lines ((x ∷ xs) ++ ys) ≡ ((x ∷ xs) ++ z) ∷ zs)
 lines_begun x [] ys h =
     let k = begun x (lines ys) in (k.0, k.1, lines_byte x ys (left_false (is_line_feed x) _ h) ∙ k.2)
-lines_begun x (y ∷ xs) ys h =
-    let k = lines_begun y xs ys (right_false (is_line_feed x) _ h) in
-    (k.0, k.1, lines_byte x ((y ∷ xs) ++ ys) (left_false (is_line_feed x) _ h) ∙ ap (onto_first x) k.2)
+lines_begun x (y ∷ xs) ys h = grind (arith, right_false, lines_byte, left_false, lines_begun y xs ys (right_false (is_line_feed x) _ h))
 
 -- the last line may lack its line feed
 pub lines_flat : (x : ℕ) (xs : List ℕ) → HasNoFeed (x ∷ xs) → lines (x ∷ xs) ≡ (x ∷ xs) ∷ []

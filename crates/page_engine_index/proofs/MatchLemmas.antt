@@ -38,11 +38,7 @@ has_name (byte ∷ bytes) =
 
 pub len_most : (text : List ℕ) → name_len text ≤ length text
 len_most [] = rw len_none (omega arith)
-len_most (byte ∷ bytes) =
-    elim (cases_Bool (ends_name byte bytes)) [
-      | inl t ↦ rw (len_at byte bytes true t) (omega arith)
-      | inr f ↦ rw (len_at byte bytes false f) (omega (arith, len_most bytes))
-    ]
+len_most (byte ∷ bytes) = grind (arith, len_at, len_most bytes)
 
 -- the last name
 pub names_end : (text : List ℕ) → name_len text ≡ length text → names_of text ≡ text ∷ []
@@ -121,37 +117,21 @@ match_first word text h = ap (list_any (is_match word)) (names_more text h)
 -- the first of the names that are left matches
 pub name_found : (word names rest : List ℕ) (n : ℕ) → has_match word names ≡ has_match word rest → n ≡ name_len rest
     → is_match word (take n rest) ≡ true → true ≡ has_match word names
-name_found word names rest n e l t =
-    elim (cases_eq (name_len rest) (length rest)) [
-      | inl same ↦
-          let k = match_last word rest same in
-          let w : take n rest ≡ rest = take_all n rest (omega (arith, l, same)) in
-          sym (e ∙ (k ∙ (ap (is_match word) (sym w) ∙ t)))
-      | inr other ↦
-          let k = match_first word rest other in
-          sym (e ∙ (k ∙ ap (λ (b : Bool). b || has_match word (drop (name_len rest + 2) rest)) (ap (λ m. is_match word (take m rest)) (sym l) ∙ t)))
-    ]
+name_found word names rest n e l t = grind (arith, cases_eq, match_last, take_all, match_first)
 
 -- the last one doesn't
 pub name_last : (word names rest : List ℕ) (n : ℕ) → has_match word names ≡ has_match word rest → n ≡ name_len rest
     → is_match word (take n rest) ≡ false → n ≡ length rest → false ≡ has_match word names
-name_last word names rest n e l f same =
-    let w : take n rest ≡ rest = take_all n rest (omega (arith, same)) in
-    sym (e ∙ (match_last word rest (sym l ∙ same) ∙ (ap (is_match word) (sym w) ∙ f)))
+name_last word names rest n e l f same = grind (arith, take_all, match_last)
 
 -- one before others doesn't
 pub name_on : (word names rest : List ℕ) (n : ℕ) → has_match word names ≡ has_match word rest → n ≡ name_len rest
     → is_match word (take n rest) ≡ false → n < length rest → has_match word names ≡ has_match word (drop (n + 2) rest)
-name_on word names rest n e l f other =
-    let no : ¬ (name_len rest ≡ length rest) = λ same. omega (arith, other, l, same) in
-    rw l (e ∙ (match_first word rest no ∙ ap (λ (b : Bool). b || has_match word (drop (name_len rest + 2) rest)) (ap (λ m. is_match word (take m rest)) (sym l) ∙ f)))
+name_on word names rest n e l f other = grind (arith, match_first)
 
 -- no room for a comma and a blank
 pub no_room : (n len : ℕ) → (n < len → n + 2 ≤ len) → n ≤ len → len < n + 2 → n ≡ len
-no_room n len room bound short = elim (cases_eq n len) [
-  | inl same ↦ same
-  | inr other ↦ let less : n < len = omega arith in absurd (omega (arith, room less))
-]
+no_room n len room bound short = grind arith
 
 -- the same of a text that was split
 pub split_found : (word names rest name : List ℕ) (n : ℕ) → has_match word names ≡ has_match word rest → n ≡ name_len rest → name ≡ take n rest
@@ -181,15 +161,11 @@ place_last word before = refl
 
 pub place_found : (word name rest : List ℕ) (before : Bool) (byte : ℕ) (after : List ℕ) → is_match word name ≡ matches_in word before rest → rest ≡ byte ∷ after
     → matches_here word before rest ≡ true → true ≡ is_match word name
-place_found word name rest before byte after e r t =
-    sym (e ∙ (ap (matches_in word before) r ∙ (place_more word before byte after
-    ∙ ap (λ (b : Bool). b || matches_in word (is_word_byte byte) after) (ap (matches_here word before) (sym r) ∙ t))))
+place_found word name rest before byte after e r t = grind (arith, place_more)
 
 pub place_on : (word name rest : List ℕ) (before : Bool) (byte : ℕ) (after : List ℕ) → is_match word name ≡ matches_in word before rest → rest ≡ byte ∷ after
     → matches_here word before rest ≡ false → is_match word name ≡ matches_in word (is_word_byte byte) after
-place_on word name rest before byte after e r f =
-    e ∙ (ap (matches_in word before) r ∙ (place_more word before byte after
-    ∙ ap (λ (b : Bool). b || matches_in word (is_word_byte byte) after) (ap (matches_here word before) (sym r) ∙ f)))
+place_on word name rest before byte after e r f = grind (arith, place_more)
 
 pub place_end : (word name rest : List ℕ) (before : Bool) → is_match word name ≡ matches_in word before rest → length rest ≡ 0
     → matches_here word before rest ≡ is_match word name
@@ -204,10 +180,7 @@ len_stop names rest byte after e r t = let z = ap name_len r ∙ len_at byte aft
 
 pub len_on : (names rest : List ℕ) (byte : ℕ) (after : List ℕ) → name_len names + length rest ≡ length names + name_len rest → rest ≡ byte ∷ after
     → ends_name byte after ≡ false → name_len names + length after ≡ length names + name_len after
-len_on names rest byte after e r f =
-    let z = ap name_len r ∙ len_at byte after false f in
-    let w = ap length r in
-    omega (arith, e, z, w)
+len_on names rest byte after e r f = grind (arith, len_at)
 
 pub len_end : (names rest : List ℕ) → name_len names + length rest ≡ length names + name_len rest → length rest ≡ 0 → length names ≡ name_len names
 len_end names [] e z = omega (arith, e, len_none)

@@ -1,5 +1,5 @@
 -- The words that are looked for, and the row of an entry.
-use Rattle.std.proofs.Common.{◌≡◌, ℕ, ◌+◌, ◌<◌, ◌≤◌, ◌||◌, Bool, true, false, List, [], ◌∷◌, Result, Ok, length, map, drop, get_or, refl, sym, ap, subst, ◌∙◌, append-nil, arith}
+use Rattle.std.proofs.Common.{◌≡◌, ℕ, ◌+◌, ◌<◌, ◌≤◌, Bool, true, false, List, [], ◌∷◌, Result, Ok, length, map, drop, get_or, refl, sym, subst, append-nil, arith}
 use Rattle.std.proofs.lemmas.List.{drop_more, drop_all}
 use Rattle.std.specs.Borrow.{Bor}
 use Rattle.std.specs.List.{list_any}
@@ -21,19 +21,14 @@ no_word = record { ref_ptr = (0, 0); now = [] }
 
 pub any_found : (names : List ℕ) (words : List (Bor (List ℕ))) (i : ℕ) (all : Bool) → all ≡ any_from names words i → i < length words
     → has_match (get_or words i no_word).now names ≡ true → true ≡ all
-any_found names words i all e h t =
-    sym (e ∙ (ap (λ (l : List (Bor (List ℕ))). list_any (λ word. has_match word names) (map (λ word. word.now) l)) (drop_more words i no_word h)
-    ∙ ap (λ (b : Bool). b || any_from names words (i + 1)) t))
+any_found names words i all e h t = grind (arith, drop_more)
 
 pub any_on : (names : List ℕ) (words : List (Bor (List ℕ))) (i : ℕ) (all : Bool) → all ≡ any_from names words i → i < length words
     → has_match (get_or words i no_word).now names ≡ false → all ≡ any_from names words (i + 1)
-any_on names words i all e h f =
-    e ∙ (ap (λ (l : List (Bor (List ℕ))). list_any (λ word. has_match word names) (map (λ word. word.now) l)) (drop_more words i no_word h)
-    ∙ ap (λ (b : Bool). b || any_from names words (i + 1)) f)
+any_on names words i all e h f = grind (arith, drop_more)
 
 pub any_end : (names : List ℕ) (words : List (Bor (List ℕ))) (i : ℕ) (all : Bool) → all ≡ any_from names words i → length words ≤ i → false ≡ all
-any_end names words i all e h =
-    sym (e ∙ ap (λ (l : List (Bor (List ℕ))). list_any (λ word. has_match word names) (map (λ word. word.now) l)) (drop_all i words h))
+any_end names words i all e h = grind (arith, drop_all)
 
 -- the row of an entry
 pub no_row : (asked : Asked) (entry : Entry) → is_shown asked entry ≡ false → [] ≡ row_of asked entry
@@ -50,8 +45,7 @@ gives_none k laws s row e = rw (sym e) ((laws.none s, refl), refl, omega arith)
 
 pub gives_row : {L : Type 0} (res : Result ℕ Fault) (k : RowsTo L) (s t : L) (asked : Asked) (entry : Entry) (show : Show) (row : List (List ℕ))
     → is_shown asked entry ≡ true → asked.show ≡ show → entry_row show entry ≡ row → GivesRow res k s t row → GivesRow res k s t (row_of asked entry)
-gives_row res k s t asked entry show row is e r g =
-    rw (sym (one_row asked entry is)) (rw e (rw r g))
+gives_row res k s t asked entry show row is e r g = grind (arith, one_row)
 
 one_of : (q : Asked) (entry : Entry) → rows q (entry ∷ []) ≡ row_of q entry
 one_of q entry = append-nil (row_of q entry)

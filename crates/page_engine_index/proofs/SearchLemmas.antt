@@ -1,10 +1,10 @@
 -- A run as far as it has come: the lines that were read, and the line that is open.
-use Rattle.std.proofs.Common.{◌≡◌, ℕ, suc, ◌+◌, ◌-◌, ◌<◌, ◌≤◌, Bool, true, false, List, [], ◌∷◌, ◌++◌, length, take, drop, get_or, add-one, nat_le, Option, Some, None, Result, Ok, Err, MatchResult, refl, sym, ap, subst, ◌∙◌, arith, inl, inr, append_assoc, append-nil, length-append, codes}
+use Rattle.std.proofs.Common.{◌≡◌, ℕ, ◌+◌, ◌-◌, ◌<◌, ◌≤◌, Bool, true, false, List, [], ◌∷◌, ◌++◌, length, take, drop, nat_le, Option, Some, None, Result, Ok, Err, MatchResult, refl, sym, ap, subst, ◌∙◌, arith, inl, inr, append_assoc, append-nil, length-append, codes}
 use Rattle.std.specs.Str.{bytes_eq}
 use Rattle.std.proofs.lemmas.Bool.{lt-leb, eqb-true}
 use Rattle.std.proofs.lemmas.Bool.Decides.{nat_tests}
 use Rattle.std.proofs.lemmas.Slice.Eq.{bytes_eq-Decides}
-use Rattle.std.proofs.lemmas.Grind.{flat_map-append}
+use Rattle.std.proofs.lemmas.Grind.{flat_map-append, common_steps}
 use Rattle.std.specs.Io.KnownBytes.{IsAtEnd}
 use Rattle.std.proofs.lemmas.List.{take-append-drop, take_at, take_all, length-take}
 use Rattle.std.proofs.Math.Seq.{split_at}
@@ -45,25 +45,13 @@ number_of e = cc
 
 pub here_start : {L : Type 0} (k : RowsTo L) (q : Asked) → IsSink k.to.gave k.to.within → (s : L) (run : Search) → IsFresh run → Here k q s s run []
 unfolding open_line whole_lines
-here_start k q laws s run f = record {
-  came = [];
-  gave = laws.none s;
-  quiet = refl;
-  holds = f.empty;
-  reads = λ later. rw (f.version, f.lines) refl;
-  lines = f.lines;
-  count = f.rows;
-  few = omega (arith, f.rows);
-}
+here_start k q laws s run f = grind arith
 
 -- ---- a line that ends
 
 whole_then : (bytes part : List ℕ) → HasNoFeed part → whole_lines (bytes ++ (part ++ 10 ∷ [])) ≡ whole_lines bytes ++ (open_line bytes ++ part) ∷ []
 unfolding whole_lines
-whole_then bytes part flat =
-    let held = open_line bytes in
-    whole-append bytes (part ++ 10 ∷ []) ∙ ap (λ (l : List Line). whole_lines bytes ++ l)
-    (ap whole_lines (sym (append_assoc held part (10 ∷ []))) ∙ whole_end (held ++ part) [] (no_feed-append held part (open_no_feed bytes) flat))
+whole_then bytes part flat = grind (arith, whole-append, append_assoc, whole_end, no_feed-append, open_no_feed)
 
 open_then : (bytes part : List ℕ) → HasNoFeed part → open_line (bytes ++ (part ++ 10 ∷ [])) ≡ []
 unfolding open_line
@@ -74,24 +62,16 @@ open_then bytes part flat =
 
 -- what an index holds, by what was read of it and what follows
 split_lines : (bytes part rest : List ℕ) → HasNoFeed part → lines (bytes ++ (part ++ 10 ∷ rest)) ≡ whole_lines bytes ++ (open_line bytes ++ part) ∷ lines rest
-split_lines bytes part rest flat =
-    let held = open_line bytes in
-    lines-append bytes (part ++ 10 ∷ rest) ∙ ap (λ (l : List Line). whole_lines bytes ++ l)
-    (ap lines (sym (append_assoc held part (10 ∷ rest))) ∙ lines_end (held ++ part) rest (no_feed-append held part (open_no_feed bytes) flat))
+split_lines bytes part rest flat = grind (arith, lines-append, append_assoc, lines_end, no_feed-append, open_no_feed)
 
 -- where bytes and a chunk are followed by more
 followed : (bytes chunk part rest more : List ℕ) → chunk ≡ part ++ 10 ∷ rest → (bytes ++ chunk) ++ more ≡ bytes ++ (part ++ 10 ∷ (rest ++ more))
-followed bytes chunk part rest more e =
-    append_assoc bytes chunk more ∙ ap (λ l. bytes ++ l) (ap (λ l. l ++ more) e ∙ append_assoc part (10 ∷ rest) more)
+followed bytes chunk part rest more e = grind (arith, append_assoc)
 
 split_index : {L : Type 0} (k : RowsTo L) (q : Asked) (s t : L) (run : Search) (bytes chunk part rest more : List ℕ) (h : Here k q s t run bytes) → HasNoFeed part
     → chunk ≡ part ++ 10 ∷ rest
     → index ((bytes ++ chunk) ++ more) ≡ with_entries h.came (index_at run.place ((run.held ++ part) ∷ lines (rest ++ more)))
-split_index k q s t run bytes chunk part rest more h flat e =
-    ap (λ l. index_from None 1 (lines l)) (followed bytes chunk part rest more e)
-    ∙ (ap (index_from None 1) (split_lines bytes part (rest ++ more) flat)
-    ∙ (h.reads ((open_line bytes ++ part) ∷ lines (rest ++ more))
-    ∙ ap (λ l. with_entries h.came (index_at run.place ((l ++ part) ∷ lines (rest ++ more)))) (sym h.holds)))
+split_index k q s t run bytes chunk part rest more h flat e = grind (arith, common_steps, followed, split_lines)
 
 pub line_here : {L : Type 0} (k : RowsTo L) (q : Asked) → IsSink k.to.gave k.to.within → (first s t : L) (run part_run run' : Search) (bytes part : List ℕ)
     → part_run ≡ record run { held = run.held ++ part } → HasNoFeed part → Here k q first s run bytes → TookLine k q part_run run' s t
@@ -152,10 +132,7 @@ other_length xs ys false e h = refl
 
 long_no_version : (line : List ℕ) → LINE < length line → version_of line ≡ None
 unfolding version_of
-long_no_version line h = rw (
-  other_length line (codes "whatis 1") (bytes_eq line (codes "whatis 1")) refl (omega (arith, h)),
-  other_length line (codes "whatis 2") (bytes_eq line (codes "whatis 2")) refl (omega (arith, h)),
-) refl
+long_no_version line h = grind (arith, other_length, codes)
 
 long_bad_at : (version : Option Version) (n : ℕ) (line : List ℕ) (later : List Line) → LINE < length line → index_from version n (line ∷ later) ≡ bad_at n
 unfolding index_from
@@ -196,21 +173,7 @@ long_stopped k q first s run bytes chunk part rest fault is flat e long h = rw i
 
 pub flat_here : {L : Type 0} (k : RowsTo L) (q : Asked) (first s : L) (run run' : Search) (bytes part : List ℕ)
     → run' ≡ record run { held = run.held ++ part } → HasNoFeed part → Here k q first s run bytes → Here k q first s run' (bytes ++ part)
-flat_here k q first s run run' bytes part is flat h =
-    let held = open_line bytes in
-    let both = no_feed-append held part (open_no_feed bytes) flat in
-    let wholes : whole_lines (bytes ++ part) ≡ whole_lines bytes =
-    whole-append bytes part ∙ (ap (λ (l : List Line). whole_lines bytes ++ l) (whole_flat (held ++ part) both) ∙ append-nil (whole_lines bytes)) in
-    rw is (record {
-      came = h.came;
-      gave = h.gave;
-      quiet = h.quiet;
-      holds = ap (λ l. l ++ part) h.holds ∙ sym (open-append bytes part ∙ open_flat (held ++ part) both);
-      reads = λ later. ap (λ (l : List Line). index_from None 1 (l ++ later)) wholes ∙ h.reads later;
-      lines = h.lines ∙ sym (ap length wholes);
-      count = h.count;
-      few = h.few;
-    })
+flat_here k q first s run run' bytes part is flat h = grind (arith, no_feed-append, open_no_feed, whole-append, whole_flat, append-nil, open-append, open_flat)
 
 -- ---- the end
 
@@ -257,9 +220,7 @@ one_line (x ∷ xs) flat some = lines_flat x xs flat
 
 last_index : {L : Type 0} (k : RowsTo L) (q : Asked) (s t : L) (run : Search) (bytes : List ℕ) (h : Here k q s t run bytes) → ¬ (run.held ≡ [])
     → index bytes ≡ with_entries h.came (index_at run.place (run.held ∷ []))
-last_index k q s t run bytes h some =
-    let one : lines (open_line bytes) ≡ run.held ∷ [] = ap lines (sym h.holds) ∙ one_line run.held (rw (h.holds) (open_no_feed bytes)) some in
-    ap (index_from None 1) (last_lines bytes ∙ ap (λ (l : List Line). whole_lines bytes ++ l) one) ∙ h.reads (run.held ∷ [])
+last_index k q s t run bytes h some = grind (arith, one_line, open_no_feed, last_lines)
 
 pub end_line : {L : Type 0} (k : RowsTo L) (q : Asked) → IsSink k.to.gave k.to.within → (first s t : L) (run run' : Search) (bytes : List ℕ)
     → ¬ (run.held ≡ []) → TookLine k q run run' s t → Here k q first s run bytes → EndedWell k q first t bytes run'.rows
@@ -372,15 +333,10 @@ pub no_feed_before : (chunk : List ℕ) (n : ℕ) → IsFirstByte (is_byte 10) c
 no_feed_before chunk n h = no_feed_all (take n chunk) (front_none 10 chunk n (omega (arith, h.0.high)) h.0.before)
 
 feed_at : (chunk : List ℕ) (n : ℕ) → IsFirstByte (is_byte 10) chunk (Some n) → chunk ≡ take n chunk ++ 10 ∷ drop (n + 1) chunk
-feed_at chunk n h =
-    split_at chunk n 0 h.0.high
-    ∙ (ap (λ x. take n chunk ++ x ∷ drop (suc n) chunk) (eqb-true (get_or chunk n 0) 10 h.1) ∙ ap (λ m. take n chunk ++ 10 ∷ drop m chunk) (sym (add-one n)))
+feed_at chunk n h = grind (arith, split_at, eqb-true)
 
 taken_line : (chunk : List ℕ) (n : ℕ) → IsFirstByte (is_byte 10) chunk (Some n) → take (n + 1) chunk ≡ take n chunk ++ 10 ∷ []
-taken_line chunk n h =
-    let l : length (take n chunk ++ 10 ∷ []) ≡ n + 1 = omega (arith, length-append (take n chunk) (10 ∷ []), length-take n chunk, h.0.high) in
-    ap (take (n + 1)) (feed_at chunk n h ∙ sym (append_assoc (take n chunk) (10 ∷ []) (drop (n + 1) chunk)))
-    ∙ take_at (take n chunk ++ 10 ∷ []) (drop (n + 1) chunk) (n + 1) l
+taken_line chunk n h = grind (arith, common_steps, length-append, length-take, feed_at, append_assoc, take_at)
 
 -- more than a line may hold
 pub no_room : (held more : List ℕ) → false ≡ nat_le (length more) (LINE - length held) → LINE < length (held ++ more)
@@ -388,14 +344,7 @@ no_room held more full = grind (arith, nat_tests, full, length-append held more)
 
 pub part_open : {L : Type 0} (res : Result ℕ Fault) (k : RowsTo L) (q : Asked) (run run' : Search) (s : L) (chunk : List ℕ) → HasNoFeed chunk → 0 < length chunk
     → run.rows ≤ run.place.lines → TakesOpen res run run' chunk → TakesPart res k q run run' s s chunk
-part_open (Ok n) k q run run' s chunk flat some few w =
-    let whole : take n chunk ≡ chunk = take_all n chunk (omega (arith, w.0)) in record {
-      some = omega (arith, w.0, some);
-      most = omega (arith, w.0);
-      lines = rw w.1 (omega arith);
-      few = rw w.1 few;
-      here = λ first bytes h. rw whole (flat_here k q first s run run' bytes chunk w.1 flat h);
-    }
+part_open (Ok n) k q run run' s chunk flat some few w = grind (arith, take_all, flat_here)
 part_open (Err fault) k q run run' s chunk flat some few w = λ first bytes h.
     long_stopped k q first s run bytes chunk chunk [] fault w.0 flat (sym (append-nil chunk)) w.1 h
 

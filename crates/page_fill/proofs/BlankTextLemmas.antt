@@ -34,10 +34,7 @@ blanks-bytes (b ∷ bytes) all =
 pub blanks-some : (e : FillEdge) (n : ℕ) (font : Font) (place : Place) → (n == 0) ≡ false
     → text e (replicate n 32) font place
     ≡ join (opening e place) (over (letters (opening e place).edge.sheet (replicate n (cell_of font 32)) place) (on_sheet (opening e place).edge))
-blanks-some e n font place some =
-    let bytes = replicate {A = ℕ} n 32 in
-    let len = length-replicate {A = ℕ} n 32 in
-    rw (← count-cells font n) (text-plain e bytes font place (blanks-plain bytes (count-blank n)) (rw len some))
+blanks-some e n font place some = grind (arith, length-replicate, count-cells, text-plain, blanks-plain, count-blank)
 
 -- ---- one text after another
 
@@ -85,8 +82,7 @@ blanks_piece count font place = Text (replicate count 32) font place
 
 one-piece : (e : FillEdge) (count : ℕ) (font : Font) (place : Place) → laid_piece e (blanks_piece count font place) ≡ text e (replicate count 32) font place
 unfolding laid_piece
-one-piece e count font place =
-    ap (λ cs. text e cs font place) (characters_of-plain (replicate count 32) (blanks-plain (replicate count 32) (count-blank count)))
+one-piece e count font place = grind (arith, characters_of-plain, blanks-plain, count-blank)
 
 one-more : (k count : ℕ) → suc k * count ≡ count + k * count
 one-more k count = grind arith
@@ -94,22 +90,13 @@ one-more k count = grind arith
 first-others : (e : FillEdge) (k count : ℕ) (font : Font) (place : Place) → ((count == 0) ≡ true) ⊎ ((count == 0) ≡ false)
     → join (text e (replicate count 32) font place) (text (text e (replicate count 32) font place).edge (replicate (suc k * count) 32) font place)
     ≡ text e (replicate (suc (suc k) * count) 32) font place
-first-others e k count font place (inl none) =
-    let zero_count : count ≡ 0 = grind (arith, nat_tests, none) in
-    let zero_others : suc k * count ≡ 0 = grind (arith, zero_count) in
-    let zero_all : suc (suc k) * count ≡ 0 = grind (arith, zero_count) in
-    rw (zero_others, zero_all, zero_count) (twice-none e font place)
-first-others e k count font place (inr some) =
-    let more : (suc k * count == 0) ≡ false = grind (arith, nat_tests, some, one-more k count) in
-    let sum : count + suc k * count ≡ suc (suc k) * count = sym (one-more (suc k) count) in
-    sym (both-texts e count (suc k * count) font place some more) ∙ ap (λ (n : ℕ). text e (replicate n 32) font place) sum
+first-others e k count font place (inl none) = grind (arith, twice-none)
+first-others e k count font place (inr some) = grind (arith, one-more, both-texts)
 
 pub texts-together : (e : FillEdge) (k count : ℕ) (font : Font) (place : Place)
     → laid e (replicate (suc k) (blanks_piece count font place)) ≡ text e (replicate (suc k * count) 32) font place
 unfolding laid
-texts-together e zero count font place =
-    let once : 1 * count ≡ count = grind arith in
-    rw once (seq-nothing (laid_piece e (blanks_piece count font place)) ∙ one-piece e count font place)
+texts-together e zero count font place = grind (arith, seq-nothing, one-piece)
 texts-together e (suc k) count font place =
     let first = text e (replicate count 32) font place in
     let others = texts-together first.edge k count font place in

@@ -1,5 +1,5 @@
 -- The words of pieces are their marks, and so pieces fill rows as their words do.
-use Rattle.std.proofs.Common.{◌≡◌, ℕ, ◌==◌, Bool, true, false, not, ◌&&◌, ◌||◌, List, [], ◌∷◌, ◌++◌, length, map, replicate, inl, inr, refl, sym, subst, ap, ◌∙◌, append_assoc, arith}
+use Rattle.std.proofs.Common.{◌≡◌, ℕ, ◌==◌, Bool, true, false, not, ◌&&◌, List, [], ◌∷◌, ◌++◌, length, map, replicate, inl, inr, refl, sym, subst, ap, ◌∙◌, append_assoc, arith}
 use Rattle.std.specs.Prelude.{if◌then◌else◌}
 use Rattle.std.proofs.lemmas.Bool.{cases_Bool, and_parts}
 use Rattle.std.proofs.lemmas.List.{map-append}
@@ -12,21 +12,21 @@ use Rattle.page_core_base.specs.declared.places.Place.{Place}
 use Rattle.page_core_base.specs.Messages.{Message}
 use Rattle.page_core_base.specs.Rows.{Laid, join, seq, Item}
 use Rattle.page_core_base.specs.Rows as items
-use Rattle.page_core_tables.specs.Glyphs.{Printing, char_printed, glyph_printed}
+use Rattle.page_core_tables.specs.Glyphs.{Printing, char_printed}
 use Rattle.page_fill.specs.declared.edges.OpenWord.{OpenWord}
 use Rattle.page_fill.specs.declared.edges.FillEdge.{FillEdge}
-use Rattle.page_fill_rows.specs.OpenRows.{Sheet, over, characters_of, unknown_notes, with_notes}
-use Rattle.page_fill_cells.specs.Cells.{blank, cell_of, cells_of}
+use Rattle.page_fill_rows.specs.OpenRows.{Sheet, over, with_notes}
+use Rattle.page_fill_cells.specs.Cells.{blank, cell_of}
 use Rattle.page_fill.specs.machine.Fill.{laid_piece}
-use Rattle.page_fill.specs.Words.{tab_notes, cell_content, printed_content, text_content, tab_content, RowWords, and_then, words_from, words_of, word_after_items, next_edge, going_on, words_laid, after_cell, word_after}
+use Rattle.page_fill.specs.Words.{cell_content, printed_content, text_content, tab_content, RowWords, and_then, words_from, words_of, word_after_items, next_edge, going_on, words_laid, word_after}
 use Rattle.page_fill.specs.machine.Items.{laid_items}
-use Rattle.page_fill.proofs.Marks.{Mark, reported, opened, spaced, lettered, letters_of, printed_marks, character_marks, text_marks, tab_marks, blank_marks, opening_marks, is_of_words, piece_marks}
-use Rattle.page_fill.specs.Filled.{CellOrNote, shown, noted, filling}
+use Rattle.page_fill.proofs.Marks.{Mark, reported, opened, lettered, letters_of, printed_marks, character_marks, text_marks, tab_marks, blank_marks, opening_marks, is_of_words, piece_marks}
+use Rattle.page_fill.specs.Filled.{CellOrNote, shown, noted}
 use Rattle.page_fill_rows.specs.laws.Views.{IsHeld}
 use Rattle.page_fill.specs.laws.Views.{is_sound}
-use Rattle.page_fill.proofs.MarkRuns.{step, run, run-append}
+use Rattle.page_fill.proofs.MarkRuns.{run, run-append}
 use Rattle.page_fill.proofs.MarkedPieces.{AreStanding, with_word, piece-run, stands-after, sound-after, run-literal}
-use Rattle.page_fill.proofs.FilledWords.{mark_of, marks_of, word_marks, words_marks, run-held, filling-run, rest-run}
+use Rattle.page_fill.proofs.FilledWords.{marks_of, word_marks, words_marks, run-held, filling-run, rest-run}
 
 -- ---- marks of cells and messages
 
@@ -39,23 +39,15 @@ noted-marks [] = refl
 noted-marks (m ∷ notes) = ap (λ ms. reported m ∷ ms) (noted-marks notes)
 
 printed-marks : (p : Printing) (font : Font) (place : Place) → printed_marks p font place ≡ marks_of (printed_content p font place)
-printed-marks p font place =
-    ap (λ ms. ms ++ letters_of place (cells_of font p.characters)) (noted-marks (unknown_notes p.unknown place))
-    ∙ (ap (λ ms. marks_of (map noted (unknown_notes p.unknown place)) ++ ms) (cell-marks place (cells_of font p.characters))
-    ∙ sym (map-append mark_of (map noted (unknown_notes p.unknown place)) (cell_content place (cells_of font p.characters))))
+printed-marks p font place = grind (arith, noted-marks, cell-marks, map-append)
 
 text-marks : (output : Output) (cs : List ℕ) (font : Font) (place : Place) → text_marks output cs font place ≡ marks_of (text_content output cs font place)
 unfolding text_marks text_content character_marks
 text-marks output [] font place = refl
-text-marks output (c ∷ cs) font place =
-    ap (λ ms. ms ++ text_marks output cs font place) (printed-marks (char_printed output c) font place)
-    ∙ (ap (λ ms. marks_of (printed_content (char_printed output c) font place) ++ ms) (text-marks output cs font place)
-    ∙ sym (map-append mark_of (printed_content (char_printed output c) font place) (text_content output cs font place)))
+text-marks output (c ∷ cs) font place = grind (arith, printed-marks, map-append, text-marks output cs font place)
 
 tab-part-marks : (is_reported : Bool) (font : Font) (place : Place) → tab_marks (not is_reported) place ++ lettered (cell_of font 32) place ∷ [] ≡ marks_of (tab_content is_reported font place)
-tab-part-marks is_reported font place =
-    ap (λ ms. ms ++ lettered (cell_of font 32) place ∷ []) (noted-marks (tab_notes (not is_reported) place))
-    ∙ sym (map-append mark_of (map noted (tab_notes (not is_reported) place)) (shown (cell_of font 32) place ∷ []))
+tab-part-marks is_reported font place = grind arith
 
 -- ---- marks of words
 
@@ -63,8 +55,7 @@ abbrev pub all_marks : RowWords → List Mark
 all_marks words = marks_of words.first ++ words_marks words.later
 
 blanks-marks : (n : ℕ) (place : Place) (content : List CellOrNote) → letters_of place (replicate n blank) ++ marks_of content ≡ marks_of (cell_content place (replicate n blank) ++ content)
-blanks-marks n place content =
-    ap (λ ms. ms ++ marks_of content) (cell-marks place (replicate n blank)) ∙ sym (map-append mark_of (cell_content place (replicate n blank)) content)
+blanks-marks n place content = grind (arith, cell-marks, map-append)
 
 word-of-marks : (stands : Bool) (notes : List Message) (n : ℕ) (place : Place) (content : List CellOrNote)
     → map reported notes ++ (opened ∷ (blank_marks stands n place ++ marks_of content))
@@ -74,22 +65,7 @@ word-of-marks false notes n place content = refl
 
 pub and-then-marks : (literal empty : Bool) (w : OpenWord) (place : Place) (ms : List Mark) (content : List CellOrNote) (rest : RowWords) → ms ≡ marks_of content
     → (opening_marks literal empty w place ++ ms) ++ all_marks rest ≡ all_marks (and_then literal empty w place content rest)
-and-then-marks literal empty w place ms content rest is = elim (cases_Bool w.is_joined) [
-  | inl j ↦
-      rw (j, is, map-append mark_of content rest.first) (sym (append_assoc (marks_of content) (marks_of rest.first) (words_marks rest.later)))
-  | inr j ↦
-      let stands = literal || (w.is_placed && empty) in
-      let notes = tab_notes (w.has_tab && not literal) place in
-      let whole = marks_of content ++ marks_of rest.first in
-      rw (j, is)
-      (append_assoc (map reported notes ++ (opened ∷ blank_marks stands w.blanks place)) (marks_of content) (all_marks rest)
-      ∙ (append_assoc (map reported notes) (opened ∷ blank_marks stands w.blanks place) (marks_of content ++ all_marks rest)
-      ∙ (ap (λ l. map reported notes ++ (opened ∷ (blank_marks stands w.blanks place ++ l))) (sym (append_assoc (marks_of content) (marks_of rest.first) (words_marks rest.later)))
-      ∙ (ap (λ l. map reported notes ++ (opened ∷ l)) (sym (append_assoc (blank_marks stands w.blanks place) whole (words_marks rest.later)))
-      ∙ (sym (append_assoc (map reported notes) (opened ∷ (blank_marks stands w.blanks place ++ whole)) (words_marks rest.later))
-      ∙ (ap (λ l. (map reported notes ++ (opened ∷ (blank_marks stands w.blanks place ++ l))) ++ words_marks rest.later) (sym (map-append mark_of content rest.first))
-      ∙ ap (λ l. l ++ words_marks rest.later) (word-of-marks stands notes w.blanks place (content ++ rest.first))))))))
-]
+and-then-marks literal empty w place ms content rest is = grind (arith, map-append, append_assoc, word-of-marks)
 
 char-marks : (output : Output) (c : ℕ) (font : Font) (place : Place) → character_marks output c font place ≡ marks_of (printed_content (char_printed output c) font place)
 unfolding character_marks
@@ -97,28 +73,17 @@ char-marks output c font place = printed-marks (char_printed output c) font plac
 
 piece-words : (output : Output) (literal empty : Bool) (w : OpenWord) (p : Piece (List ℕ)) (rest : RowWords)
     → piece_marks output literal empty w p ++ all_marks rest ≡ all_marks (words_from output literal empty w p rest)
-piece-words output literal empty w (Text bytes font place) rest = elim (cases_Bool (length (characters_of bytes) == 0)) [
-  | inl z ↦ rw z refl
-  | inr z ↦ rw z (and-then-marks literal empty w place (text_marks output (characters_of bytes) font place) (text_content output (characters_of bytes) font place) rest (text-marks output (characters_of bytes) font place))
-]
-piece-words output literal empty w (Glyph name font place) rest =
-    and-then-marks literal empty w place (printed_marks (glyph_printed output name) font place) (printed_content (glyph_printed output name) font place) rest (printed-marks (glyph_printed output name) font place)
-piece-words output literal empty w (Char c font place) rest =
-    and-then-marks literal empty w place (character_marks output c font place) (printed_content (char_printed output c) font place) rest (char-marks output c font place)
-piece-words output literal empty w (Tab font place) rest =
-    let is_reported = (after_cell literal w).is_reported in
-    and-then-marks literal empty w place (tab_marks (not is_reported) place ++ lettered (cell_of font 32) place ∷ []) (tab_content is_reported font place) rest (tab-part-marks is_reported font place)
+piece-words output literal empty w (Text bytes font place) rest = grind (arith, and-then-marks, text-marks)
+piece-words output literal empty w (Glyph name font place) rest = grind (arith, and-then-marks, printed-marks)
+piece-words output literal empty w (Char c font place) rest = grind (arith, and-then-marks, char-marks)
+piece-words output literal empty w (Tab font place) rest = grind (arith, and-then-marks, tab-part-marks)
 piece-words output literal empty w Split rest = elim (cases_Bool (w.is_joined && not literal)) [ inl b ↦ rw b refl | inr b ↦ rw b refl ]
 piece-words output literal empty w _ rest = refl
 
 -- ---- words from an edge
 
 words-run : (s : Sheet) (words : RowWords) → IsHeld s → run s (all_marks words) ≡ going_on s words
-words-run s words h =
-    let x = run s (marks_of words.first) in
-    run-append s (marks_of words.first) (words_marks words.later)
-    ∙ (ap (λ l. join x l) (filling-run x.edge words.later (run-held s (marks_of words.first) h))
-    ∙ ap (λ l. seq l (λ t. filling t words.later)) (rest-run s words.first h))
+words-run s words h = grind (arith, run-append, filling-run, run-held, rest-run)
 
 -- what marks do is what the words do on the whole edge
 pub edge-run : (e : FillEdge) (w : OpenWord) (words : RowWords) → IsHeld e.sheet

@@ -1,5 +1,5 @@
 -- Words fill rows as their marks do, one by one.
-use Rattle.std.proofs.Common.{◌≡◌, ℕ, zero, suc, ◌+◌, ◌-◌, ◌<◌, ◌≤◌, ◌==◌, nat_lt, true, false, List, [], ◌∷◌, ◌++◌, length, take, drop, map, replicate, inl, inr, refl, sym, ap, ◌∙◌, arith, append_assoc, length-append, length-drop, lit<}
+use Rattle.std.proofs.Common.{◌≡◌, ℕ, zero, suc, ◌+◌, ◌<◌, ◌≤◌, ◌==◌, true, false, List, [], ◌∷◌, ◌++◌, length, take, drop, map, replicate, inl, inr, refl, sym, ap, ◌∙◌, arith, append_assoc, length-append, length-drop, lit<}
 use Rattle.std.specs.Prelude.{if◌then◌else◌}
 use Rattle.std.proofs.lemmas.List.{take-append-le, drop-append-le}
 use Rattle.std.proofs.lemmas.Bool.{cases_Bool}
@@ -65,20 +65,14 @@ first-run s (shown cell place ∷ content) first =
 -- a row that begins with some cells and one more
 more-begun : (s : Sheet) (front : List Cell) (cell : Cell) (content : List CellOrNote)
     → first_word (row_begun s (front ++ cell ∷ [])) content ≡ first_word (started s (front ++ cell ∷ [])) content
-more-begun s front cell content =
-    let more : (length (front ++ cell ∷ []) == 0) ≡ false = rw (length-append front (cell ∷ [])) (grind (arith, nat_tests)) in
-    rw more refl
+more-begun s front cell content = grind (arith, length-append)
 
 -- there is one more cell
 first-front : (s : Sheet) (front : List Cell) (cell : Cell) (place : Place) (content : List CellOrNote) → length front < CELLS
     → first_word (started (closed s) front) (shown cell place ∷ content) ≡ first_word (started (counted (closed s) cell) (front ++ cell ∷ [])) content
 unfolding first_word
 first-front s [] cell place content room = refl
-first-front s (c ∷ cs) cell place content room =
-    let full : (length (c ∷ cs) == CELLS) ≡ false = grind (arith, nat_tests) in
-    let some : (length (c ∷ cs) == 0) ≡ false = grind (arith, nat_tests) in
-    let more : (length (c ∷ (cs ++ cell ∷ [])) == 0) ≡ false = grind (arith, nat_tests) in
-    rw (some, full, some, more) refl
+first-front s (c ∷ cs) cell place content room = grind arith
 
 note-first : (s : Sheet) (m : Message) (content : List CellOrNote) → with_notes (m ∷ []) (first_word s content) ≡ first_word s (noted m ∷ content)
 unfolding first_word
@@ -97,24 +91,17 @@ pub record IsInWord (s : Sheet) : Type 0 where
   pub bounded : length s.cells ≤ CELLS
 
 passes-later : (s : Sheet) (cell : Cell) → 0 < s.gap → passes (sheets.counted s cell) cell ≡ is_wide s cell
-passes-later s cell later =
-    let gap : nat_lt 0 s.gap ≡ true = grind (arith, nat_tests) in
-    elim (cases_Bool s.literal) [ inl l ↦ rw (gap, l) refl | inr l ↦ rw (gap, l) refl ]
+passes-later s cell later = grind arith
 
 passes-blank : (s : Sheet) → 0 < s.gap → passes s blank ≡ is_wide s blank
 passes-blank s later = passes-later s blank later
 
 front-short : (s : Sheet) → IsInWord s → length (drop s.word s.cells) < CELLS
-front-short s i =
-    let len : length (drop s.word s.cells) ≡ length s.cells - s.word = length-drop s.word s.cells in
-    omega (arith, len, i.later, i.gap_within, i.word_within, i.bounded)
+front-short s i = grind (arith, length-drop)
 
 -- one more cell of the word
 in-word-more : (s : Sheet) (cell : Cell) → IsInWord s → (length s.cells == CELLS) ≡ false → IsInWord (record (sheets.counted s cell) { cells = s.cells ++ cell ∷ [] })
-in-word-more s cell i room =
-    let len : length (s.cells ++ cell ∷ []) ≡ length s.cells + 1 = length-append s.cells (cell ∷ []) in
-    let more : length s.cells < CELLS = grind (arith, nat_tests, i.bounded, room) in
-    record { later = i.later; gap_within = i.gap_within; word_within = rw len (omega (arith, i.word_within)); bounded = rw len (omega (arith, more)) }
+in-word-more s cell i room = grind (arith, length-append)
 
 wide-more : (s : Sheet) (cell : Cell) (place : Place) (content : List CellOrNote) (base front : List Cell) → base ≡ before_word s → front ≡ of_word s ++ cell ∷ []
     → length (of_word s) < CELLS
@@ -126,8 +113,7 @@ wide-more s cell place content base front same more room =
 by_word-more : (s : Sheet) (cell : Cell) (place : Place) (content : List CellOrNote) (o : WordOutcome)
     → s.gap ≤ length s.cells → s.word ≤ length s.cells → length (of_word s) < CELLS
     → by_word (with_cell s cell) content o ≡ by_word s (shown cell place ∷ content) o
-by_word-more s cell place content (too_wide taken) gap word room =
-    wide-more s cell place content (before_word (with_cell s cell)) (of_word (with_cell s cell)) (take-append-le s.gap s.cells (cell ∷ []) gap) (drop-append-le s.word s.cells (cell ∷ []) word) room
+by_word-more s cell place content (too_wide taken) gap word room = grind (arith, wide-more, take-append-le, drop-append-le)
 by_word-more s cell place content _ gap word room = refl
 
 -- the cells of a word, from any of them on
@@ -169,15 +155,7 @@ no-blanks s (suc n) place ms none = rw none (no-blanks s n place ms none)
 -- one more blank
 in-blanks-more : (s : Sheet) → IsInWord s → (length s.cells == CELLS) ≡ false
     → IsInWord (record (sheets.counted s blank) { cells = s.cells ++ blank ∷ []; word = length s.cells + 1 })
-in-blanks-more s i room =
-    let len : length (s.cells ++ blank ∷ []) ≡ length s.cells + 1 = length-append s.cells (blank ∷ []) in
-    let more : length s.cells < CELLS = grind (arith, nat_tests, i.bounded, room) in
-    record {
-      later = i.later;
-      gap_within = omega (arith, i.gap_within, i.word_within);
-      word_within = omega (arith, len);
-      bounded = rw len (omega (arith, more));
-    }
+in-blanks-more s i room = grind (arith, length-append)
 
 -- the row before its blanks, of which the word's place is known after them alone
 abbrev pub with_place : Sheet → ℕ → Sheet
@@ -261,9 +239,4 @@ filling-run s (w ∷ ws) h =
 -- ---- from any open row
 
 pub rest-run : (s : Sheet) (content : List CellOrNote) → IsHeld s → run s (marks_of content) ≡ rest_of_word s content
-rest-run s content h = elim (cases_Bool (s.gap == 0)) [
-  | inl z ↦ let start : s.gap ≡ 0 = grind (arith, nat_tests, z) in rw z (first-run s content start)
-  | inr z ↦
-      let later : 0 < s.gap = grind (arith, nat_tests, z) in
-      rw z (word-run s content (record { later = later; gap_within = h.gap_within; word_within = h.word_within; bounded = h.bounded }))
-]
+rest-run s content h = grind (arith, first-run, word-run)

@@ -1,5 +1,5 @@
 -- What the steps lay of one piece is filling in words; and so is what a filler lays piece by piece.
-use Rattle.std.proofs.Common.{◌≡◌, ℕ, zero, suc, Bool, true, List, [], ◌∷◌, map, replicate, Option, None, Some, Result, Ok, Err, OnOk, refl, sym, ap, ◌∙◌}
+use Rattle.std.proofs.Common.{◌≡◌, ℕ, zero, suc, Bool, true, List, [], ◌∷◌, map, replicate, Option, None, Some, Result, Ok, Err, OnOk, refl, sym, ap, ◌∙◌, arith}
 use Rattle.std.specs.Prelude.{if◌then◌else◌}
 use Rattle.page_core_base.specs.declared.faults.Fault.{Fault}
 use Rattle.page_core_base.specs.Rows.{Laid, join, seq, Item, shown, noted}
@@ -39,9 +39,7 @@ same-edge is_going held e goes is = ap (edge_or held) (rw goes at is)
 
 pub piece-at : (is_going : Bool) (held e : FillEdge) (p : Piece (List ℕ)) → is_going ≡ true → (is_going ≡ true → IsHeld held.sheet × (is_sound held.word ≡ true))
     → (if is_going then Some held else None) ≡ Some e → laid_piece held p ≡ filled e (shown p ∷ [])
-piece-at is_going held e p goes kept is =
-    let k = kept goes in
-    piece-law held p k.0 k.1 ∙ ap (λ (f : FillEdge). filled f (shown p ∷ [])) (same-edge is_going held e goes is)
+piece-at is_going held e p goes kept is = grind (arith, piece-law, same-edge)
 
 pub edge-at : (res : Result (Unit {0}) Fault) (is_going : Bool) (new held e : FillEdge) (p : Piece (List ℕ)) → is_going ≡ true
     → (is_going ≡ true → IsHeld held.sheet × (is_sound held.word ≡ true)) → (if is_going then Some held else None) ≡ Some e
@@ -51,9 +49,7 @@ edge-at (Err x) is_going new held e p goes kept is next = tt
 
 pub end-at : (is_going : Bool) (held e : FillEdge) → is_going ≡ true → (is_going ≡ true → IsHeld held.sheet × (is_sound held.word ≡ true))
     → (if is_going then Some held else None) ≡ Some e → ended held ≡ row_end e
-end-at is_going held e goes kept is =
-    let k = kept goes in
-    (end-law held k.0 k.1).0 ∙ ap row_end (same-edge is_going held e goes is)
+end-at is_going held e goes kept is = grind (arith, end-law, same-edge)
 
 -- ---- a list of pieces
 
@@ -72,9 +68,7 @@ pieces-law e pieces h s = sym (laid-pieces e pieces) ∙ steps-law e (map shown 
 
 pub pieces-at : (is_going : Bool) (held e : FillEdge) (pieces : List (Piece (List ℕ))) → is_going ≡ true → (is_going ≡ true → IsHeld held.sheet × (is_sound held.word ≡ true))
     → (if is_going then Some held else None) ≡ Some e → laid held pieces ≡ filled e (map shown pieces)
-pieces-at is_going held e pieces goes kept is =
-    let k = kept goes in
-    pieces-law held pieces k.0 k.1 ∙ ap (λ (f : FillEdge). filled f (map shown pieces)) (same-edge is_going held e goes is)
+pieces-at is_going held e pieces goes kept is = grind (arith, pieces-law, same-edge)
 
 pub pieces-edge : (res : Result (Unit {0}) Fault) (is_going : Bool) (new held e : FillEdge) (pieces : List (Piece (List ℕ))) → is_going ≡ true
     → (is_going ≡ true → IsHeld held.sheet × (is_sound held.word ≡ true)) → (if is_going then Some held else None) ≡ Some e
@@ -92,9 +86,7 @@ again-kept e times p k = rw (again-law e times p k.0 k.1) (held-law e (replicate
 
 pub again-at : (is_going : Bool) (held e : FillEdge) (times : ℕ) (p : Piece (List ℕ)) → is_going ≡ true → (is_going ≡ true → IsHeld held.sheet × (is_sound held.word ≡ true))
     → (if is_going then Some held else None) ≡ Some e → laid held (replicate times p) ≡ filled e (replicate times (shown p))
-again-at is_going held e times p goes kept is =
-    let k = kept goes in
-    again-law held times p k.0 k.1 ∙ ap (λ (f : FillEdge). filled f (replicate times (shown p))) (same-edge is_going held e goes is)
+again-at is_going held e times p goes kept is = grind (arith, again-law, same-edge)
 
 pub again-edge : (res : Result (Unit {0}) Fault) (is_going : Bool) (new held e : FillEdge) (times : ℕ) (p : Piece (List ℕ)) → is_going ≡ true
     → (is_going ≡ true → IsHeld held.sheet × (is_sound held.word ≡ true)) → (if is_going then Some held else None) ≡ Some e

@@ -1,5 +1,5 @@
 -- The steps of filling lay what its definition says: of groups of words, and of what is between them.
-use Rattle.std.proofs.Common.{◌≡◌, ℕ, ◌-◌, ◌==◌, Bool, true, false, List, [], ◌∷◌, ◌++◌, length, replicate, Option, None, Some, inl, inr, refl, subst, sym, ap, ◌∙◌, append-nil}
+use Rattle.std.proofs.Common.{◌≡◌, ℕ, ◌-◌, ◌==◌, Bool, true, false, List, [], ◌∷◌, ◌++◌, length, replicate, Option, None, Some, inl, inr, refl, subst, sym, ap, ◌∙◌, append-nil, arith}
 use Rattle.std.specs.Prelude.{if◌then◌else◌}
 use Rattle.std.proofs.lemmas.Bool.{cases_Bool}
 use Rattle.page_core_base.specs.declared.cells.Font.{Font}
@@ -10,7 +10,7 @@ use Rattle.page_core_base.specs.Messages.{Message}
 use Rattle.page_core_base.specs.Rows.{Laid, nothing, join, seq, Item, shown, noted}
 use Rattle.page_fill.specs.declared.edges.OpenTag.{OpenTag}
 use Rattle.page_fill.specs.declared.edges.FillEdge.{FillEdge}
-use Rattle.page_fill.specs.machine.Fill.{laid_piece, on_sheet, opening, tab, fixed_tab, filled_tab, to_stop, ended, paragraph, spaced, row_ended, heading, headed, without_tag, fits_hang}
+use Rattle.page_fill.specs.machine.Fill.{laid_piece, on_sheet, opening, tab, fixed_tab, to_stop, ended, paragraph, spaced, row_ended, heading, headed, without_tag}
 use Rattle.page_fill.specs.Words.{no_word, cell_content, RowWords, and_then, words_laid, content_laid, after_cell}
 use Rattle.page_fill.specs.machine.Fill as fill
 use Rattle.page_fill_rows.specs.OpenRows.{over}
@@ -48,10 +48,6 @@ row-end : (e : FillEdge) → ended e ≡ row_end e
 unfolding ended broken
 row-end e = elim (cases_Bool (length e.sheet.cells == 0)) [ inl z ↦ rw z refl | inr z ↦ rw z refl ]
 
-blanks-law : (e : FillEdge) (n : ℕ) → over (empty_rows e.sheet n) (on_sheet e) ≡ blank_rows e n
-unfolding empty_rows
-blanks-law e n = refl
-
 spaced-law : (e : FillEdge) (n : ℕ) → spaced e n ≡ seq (row_end e) (λ f. blank_rows f n)
 unfolding spaced empty_rows
 spaced-law e n = ap (λ (l : Laid FillEdge). seq l (λ f. blank_rows f n)) (row-end e)
@@ -71,10 +67,7 @@ heading-law e = ap (λ (l : Laid FillEdge). over l (λ f. if length e.sheet.cell
 -- ---- tags
 
 after_tag-law : (e : FillEdge) (t : OpenTag) → fill.after_tag e t ≡ after_tag e t
-after_tag-law e t = elim (cases_Bool (fits_hang e.sheet t.hang)) [
-  | inl f ↦ rw f refl
-  | inr f ↦ rw f (elim (cases_Bool t.ends_row) [ inl r ↦ rw r (row-end e) | inr r ↦ rw r refl ])
-]
+after_tag-law e t = grind (arith, row-end)
 
 tag-law : (e : FillEdge) (tag : Option OpenTag) → fill.tag_ended (without_tag e) tag ≡ tag_end e None tag
 tag-law e None = row-end (without_tag e)
@@ -132,18 +125,11 @@ one-law e p h s k = sym (one-item e p) ∙ words-law e (shown p ∷ []) h s (rw 
 kept-tab : (e : FillEdge) (font : Font) (place : Place) → e.sheet.literal ≡ true → IsHeld e.sheet
     → laid_piece e (Tab font place) ≡ seq (content_laid e place []) (λ f. content_laid f place (stop_content f.sheet.cells place))
 unfolding laid_piece tab
-kept-tab e font place l h =
-    let f = (opening e place).edge in
-    let still : (opening e place).edge.sheet.literal ≡ true = opening-literal e place ∙ l in
-    let choice : (if (opening e place).edge.sheet.literal then fixed_tab f place else filled_tab f font place) ≡ fixed_tab f place = rw still refl in
-    ap (λ (m : Laid FillEdge). join (opening e place) m) (choice ∙ fixed-law f place (opening-joined e place) (opening-held e place h))
-    ∙ ap (λ (m : Laid FillEdge). seq m (λ g. content_laid g place (stop_content g.sheet.cells place))) (opening-law e place h)
+kept-tab e font place l h = grind (arith, opening-literal, choice, fixed-law, opening-joined, opening-held, opening-law)
 
 tab-law : (e : FillEdge) (font : Font) (place : Place) → IsHeld e.sheet → is_sound e.word ≡ true → laid_piece e (Tab font place) ≡ other_laid e (Tab font place)
 unfolding other_laid
-tab-law e font place h s =
-    choice e.sheet.literal (laid_piece e (Tab font place)) (seq (content_laid e place []) (λ f. content_laid f place (stop_content f.sheet.cells place))) (words_laid e (shown (Tab font place) ∷ []))
-    (λ l. kept-tab e font place l h) (λ l. one-law e (Tab font place) h s (rw l refl))
+tab-law e font place h s = grind (arith, choice, kept-tab, one-law)
 
 other-law : (e : FillEdge) (p : Piece (List ℕ)) → IsHeld e.sheet → is_sound e.word ≡ true → laid_piece e p ≡ other_laid e p
 unfolding laid_piece other_laid
@@ -191,10 +177,7 @@ groups-items : (items : List Item) → items_of (groups items) ≡ items
 unfolding groups
 groups-items [] = refl
 groups-items (noted m ∷ items) = front-items (noted m) (groups items) ∙ ap (λ l. noted m ∷ l) (groups-items items)
-groups-items (shown p ∷ items) = elim (cases_Bool (is_of_words p)) [
-  | inl w ↦ rw w (front-items (shown p) (groups items) ∙ ap (λ l. shown p ∷ l) (groups-items items))
-  | inr w ↦ rw w (ap (λ l. shown p ∷ l) (groups-items items))
-]
+groups-items (shown p ∷ items) = grind (arith, front-items, groups-items items)
 
 front-note : (m : Message) (gs : List Group) → AreGrouped gs → AreGrouped (in_front (noted m) gs)
 front-note m [] k = (tt, tt)
@@ -210,10 +193,7 @@ groups-grouped : (items : List Item) → AreGrouped (groups items)
 unfolding groups
 groups-grouped [] = tt
 groups-grouped (noted m ∷ items) = front-note m (groups items) (groups-grouped items)
-groups-grouped (shown p ∷ items) = elim (cases_Bool (is_of_words p)) [
-  | inl w ↦ rw w (front-piece p (groups items) w (groups-grouped items))
-  | inr w ↦ rw w (groups-grouped items)
-]
+groups-grouped (shown p ∷ items) = grind (arith, front-piece, groups-grouped items)
 
 piece-of-words : (literal : Bool) (p : Piece (List ℕ)) → is_of_words p ≡ true → marks.is_of_words literal p ≡ true
 piece-of-words literal (Text bytes font place) w = refl
@@ -289,6 +269,4 @@ one-end e = refl
 
 pub end-law : (e : FillEdge) → IsHeld e.sheet → is_sound e.word ≡ true
     → (ended e ≡ row_end e) × (IsHeld (row_end e).edge.sheet × (is_sound (row_end e).edge.word ≡ true))
-end-law e h s =
-    let Keeps : Laid FillEdge → Type 0 = λ l. IsHeld l.edge.sheet × (is_sound l.edge.word ≡ true) in
-    (row-end e, subst Keeps (one-end e ∙ row-end e) (piece-held e Break h, piece-sound e Break s))
+end-law e h s = grind (arith, row-end, one-end, piece-held, piece-sound)

@@ -1,6 +1,5 @@
 -- Texts that are glued are one word.
-use Rattle.std.proofs.Common.{◌≡◌, ℕ, ◌<◌, ◌==◌, Bool, true, false, not, ◌&&◌, List, [], ◌∷◌, ◌++◌, length, IsUtf8, inl, inr, refl, sym, ap, ◌∙◌, arith, append_assoc, append-nil}
-use Rattle.std.proofs.lemmas.Bool.{cases_Bool}
+use Rattle.std.proofs.Common.{◌≡◌, ℕ, ◌<◌, ◌==◌, Bool, true, false, not, ◌&&◌, List, [], ◌∷◌, ◌++◌, length, IsUtf8, refl, sym, ap, ◌∙◌, arith, append_assoc, append-nil}
 use Rattle.std.proofs.lemmas.Bool.Decides.{nat_tests}
 use Rattle.std.proofs.lemmas.Str.{chars-append, IsUtf8-append}
 use Rattle.page_core_base.specs.declared.cells.Font.{Font}
@@ -8,10 +7,9 @@ use Rattle.page_core_base.specs.declared.page_settings.Output.{Output}
 use Rattle.page_core_base.specs.declared.pieces.Piece.TheVariants.{Text, Blank, Glue}
 use Rattle.page_core_base.specs.declared.places.Place.{Place}
 use Rattle.page_core_base.specs.Rows.{Laid, nothing, seq, Item, shown}
-use Rattle.page_core_tables.specs.Glyphs.{char_printed}
 use Rattle.page_fill.specs.declared.edges.FillEdge.{FillEdge}
 use Rattle.page_fill.specs.declared.edges.OpenWord.{OpenWord}
-use Rattle.page_fill.specs.Words.{begun_word, text_content, printed_content, RowWords, word_of, words_of, word_after_items, going_on, next_edge, words_laid}
+use Rattle.page_fill.specs.Words.{begun_word, text_content, RowWords, word_of, words_of, word_after_items, going_on, next_edge, words_laid}
 use Rattle.page_fill_rows.specs.OpenRows.{characters_of}
 use Rattle.page_fill_rows.proofs.CharacterLemmas.{characters_of-text, chars-empty}
 use Rattle.page_fill.specs.Filled.{CellOrNote}
@@ -35,9 +33,7 @@ text-append : (output : Output) (xs ys : List ℕ) (font : Font) (place : Place)
     → text_content output (xs ++ ys) font place ≡ text_content output xs font place ++ text_content output ys font place
 unfolding text_content
 text-append output [] ys font place = refl
-text-append output (c ∷ cs) ys font place =
-    let x = printed_content (char_printed output c) font place in
-    ap (λ l. x ++ l) (text-append output cs ys font place) ∙ sym (append_assoc x (text_content output cs font place) (text_content output ys font place))
+text-append output (c ∷ cs) ys font place = grind (arith, append_assoc, text-append output cs ys font place)
 
 -- ---- glued texts
 
@@ -61,10 +57,7 @@ whole-after literal w a font place new some = rw (some, new) refl
 two-after : (literal : Bool) (w : OpenWord) (a b : List ℕ) (font : Font) (place : Place) (n : ℕ) (has_tab : Bool) → w.is_joined ≡ false → (length (characters_of a) == 0) ≡ false
     → word_after_items literal w (two a b font place n has_tab) ≡ begun_word (w.has_tab && not literal)
 unfolding word_after_items
-two-after literal w a b font place n has_tab new some = elim (cases_Bool (length (characters_of b) == 0)) [
-  | inl z ↦ rw (some, new, z) refl
-  | inr z ↦ rw (some, new, z) refl
-]
+two-after literal w a b font place n has_tab new some = grind arith
 
 -- a word of this content
 abbrev one_of : Bool → Bool → OpenWord → Place → List CellOrNote → RowWords
@@ -73,21 +66,13 @@ one_of literal empty w place content = record { first = []; later = word_of lite
 whole-words : (output : Output) (literal empty : Bool) (w : OpenWord) (a : List ℕ) (font : Font) (place : Place) → w.is_joined ≡ false → (length (characters_of a) == 0) ≡ false
     → words_of output literal empty w (whole a font place) ≡ one_of literal empty w place (text_content output (characters_of a) font place)
 unfolding words_of
-whole-words output literal empty w a font place new some =
-    let nil = append-nil (text_content output (characters_of a) font place) in
-    rw (some, new) (ap (one_of literal empty w place) nil)
+whole-words output literal empty w a font place new some = grind (arith, append-nil)
 
 two-words : (output : Output) (literal empty : Bool) (w : OpenWord) (a b : List ℕ) (font : Font) (place : Place) (n : ℕ) (has_tab : Bool) → w.is_joined ≡ false → (length (characters_of a) == 0) ≡ false
     → words_of output literal empty w (two a b font place n has_tab)
     ≡ one_of literal empty w place (text_content output (characters_of a) font place ++ text_content output (characters_of b) font place)
 unfolding words_of
-two-words output literal empty w a b font place n has_tab new some =
-    let x = text_content output (characters_of a) font place in
-    let y = text_content output (characters_of b) font place in
-    elim (cases_Bool (length (characters_of b) == 0)) [
-      | inl z ↦ rw (some, new, z) (ap (λ l. one_of literal empty w place (x ++ l)) (sym (empty-text output (characters_of b) font place z)))
-      | inr z ↦ rw (some, new, z) (ap (λ l. one_of literal empty w place (x ++ l)) (append-nil y))
-    ]
+two-words output literal empty w a b font place n has_tab new some = grind (arith, empty-text, append-nil)
 
 some-append : (xs ys : List ℕ) → (length xs == 0) ≡ false → (length (xs ++ ys) == 0) ≡ false
 some-append [] ys h = absurd (let q : true ≡ false = h in cc)

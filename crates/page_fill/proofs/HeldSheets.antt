@@ -1,8 +1,6 @@
 -- The places of the open row's last word lie within the row, at each edge that a page comes to.
-use Rattle.std.proofs.Common.{◌≡◌, ℕ, zero, suc, ◌+◌, ◌-◌, ◌<◌, ◌==◌, nat_lt, Bool, true, false, not, ◌&&◌, List, [], ◌∷◌, ◌++◌, length, drop, replicate, Option, None, Some, inl, inr, refl, arith, length-append, length-drop, lit≤}
-use Rattle.std.specs.Prelude.{if◌then◌else◌}
+use Rattle.std.proofs.Common.{ℕ, zero, suc, Bool, true, false, not, ◌&&◌, List, [], ◌∷◌, replicate, Option, None, Some, inl, inr, arith, length-append, length-drop, lit≤}
 use Rattle.std.proofs.lemmas.Bool.{cases_Bool}
-use Rattle.std.proofs.lemmas.Bool.Decides.{nat_tests}
 use Rattle.page_core_base.specs.declared.cells.Cell.{Cell}
 use Rattle.page_core_base.specs.declared.cells.Font.{Font}
 use Rattle.page_core_base.specs.declared.page_settings.Output.{Output}
@@ -10,53 +8,22 @@ use Rattle.page_core_base.specs.declared.pieces.Piece.{Piece}
 use Rattle.page_core_base.specs.declared.pieces.Piece.TheVariants.{Text, Glyph, Char, Tab, Blank, Glue, Split, Break, RowEnd, Para, Space, Indent, Literal, Tag, TagEnd, Heading, Column}
 use Rattle.page_core_base.specs.declared.pieces.TagForm.TheVariants as forms
 use Rattle.page_core_base.specs.declared.places.Place.{Place}
-use Rattle.page_core_base.specs.Rows.{nothing}
-use Rattle.page_core_base.specs.declared.limits.TheConstants.{CELLS}
 use Rattle.page_core_tables.specs.Glyphs.{char_printed, glyph_printed}
 use Rattle.page_fill.specs.declared.edges.OpenTag.{OpenTag}
 use Rattle.page_fill.specs.declared.edges.FillEdge.{FillEdge}
 use Rattle.page_fill_rows.specs.OpenRows.{Sheet, fresh, characters_of}
-use Rattle.page_fill_cells.specs.Cells.{blank, cells_of, cell_of}
-use Rattle.page_fill_rows.specs.machine.Sheets.{passes, letter, letters, space, spaces, new_word, opens, broken, empty_rows}
+use Rattle.page_fill_cells.specs.Cells.{blank, cells_of}
+use Rattle.page_fill_rows.specs.machine.Sheets.{letter, letters, space, spaces, new_word, opens, broken, empty_rows}
 use Rattle.page_fill_rows.specs.laws.Views.{character, characters, glyph, IsHeld}
-use Rattle.page_fill.specs.machine.Fill.{laid_piece, text, one_character, one_glyph, tab, opening, ended, paragraph, spaced, row_ended, heading, tag_ended, tag_end, after_tag, fits_hang, without_tag, stands, to_stop, missing_rows}
-use Rattle.page_fill.specs.Words.{no_word}
+use Rattle.page_fill.specs.machine.Fill.{laid_piece, text, one_character, one_glyph, tab, opening, ended, paragraph, spaced, row_ended, heading, tag_ended, tag_end, after_tag, without_tag, stands, missing_rows}
 
 pub letter-held : (s : Sheet) (cell : Cell) (place : Place) → IsHeld s → IsHeld (letter s cell place).edge
 unfolding letter
-letter-held s cell place h = elim (cases_Bool (passes s cell)) [
-  | inl p ↦
-      let gap : nat_lt 0 s.gap ≡ true = grind (arith, nat_tests, p) in
-      let later : 0 < s.gap = grind (arith, nat_tests, gap) in
-      let len : length (drop s.word s.cells ++ cell ∷ []) ≡ length s.cells - s.word + 1 = rw (length-append (drop s.word s.cells) (cell ∷ []), length-drop s.word s.cells) refl in
-      rw p (record { gap_within = omega arith; word_within = omega arith; bounded = rw len (omega (arith, later, h.gap_within, h.word_within, h.bounded)) })
-  | inr p ↦ elim (cases_Bool (length s.cells == CELLS)) [
-    | inl q ↦ rw (p, q) (record { gap_within = omega arith; word_within = omega arith; bounded = lit≤ tt })
-    | inr q ↦ elim (cases_Bool (length s.cells == 0)) [
-      | inl z ↦ rw (p, q, z) (record { gap_within = omega arith; word_within = omega arith; bounded = lit≤ tt })
-      | inr z ↦
-          let len : length (s.cells ++ cell ∷ []) ≡ length s.cells + 1 = length-append s.cells (cell ∷ []) in
-          let more : length s.cells < CELLS = grind (arith, nat_tests, h.bounded, q) in
-          rw (p, q, z) (record { gap_within = h.gap_within; word_within = rw len (omega (arith, h.word_within)); bounded = rw len (omega (arith, more)) })
-    ]
-  ]
-]
+letter-held s cell place h = grind (arith, length-append, length-drop)
 
 pub space-held : (s : Sheet) (place : Place) → IsHeld s → IsHeld (space s place).edge
 unfolding space
-space-held s place h = elim (cases_Bool (length s.cells == 0)) [
-  | inl z ↦ rw z h
-  | inr z ↦ elim (cases_Bool (passes s blank)) [
-    | inl p ↦ rw (z, p) (record { gap_within = omega arith; word_within = omega arith; bounded = lit≤ tt })
-    | inr p ↦ elim (cases_Bool (length s.cells == CELLS)) [
-      | inl q ↦ rw (z, p, q) (record { gap_within = omega arith; word_within = omega arith; bounded = lit≤ tt })
-      | inr q ↦
-          let len : length (s.cells ++ blank ∷ []) ≡ length s.cells + 1 = length-append s.cells (blank ∷ []) in
-          let more : length s.cells < CELLS = grind (arith, nat_tests, h.bounded, q) in
-          rw (z, p, q) (record { gap_within = omega (arith, h.gap_within, h.word_within); word_within = omega (arith, len); bounded = rw len (omega (arith, more)) })
-    ]
-  ]
-]
+space-held s place h = grind (arith, length-append)
 
 pub letters-held : (s : Sheet) (cells : List Cell) (place : Place) → IsHeld s → IsHeld (letters s cells place).edge
 unfolding letters
@@ -77,10 +44,7 @@ new-word-held s n false place h = spaces-held (opens s) n place (opens-held s h)
 
 pub opening-held : (e : FillEdge) (place : Place) → IsHeld e.sheet → IsHeld (opening e place).edge.sheet
 unfolding opening
-opening-held e place h = elim (cases_Bool e.word.is_joined) [
-  | inl j ↦ rw j h
-  | inr j ↦ rw j (new-word-held e.sheet e.word.blanks (stands e) place h)
-]
+opening-held e place h = grind (arith, new-word-held)
 
 character-held : (output : Output) (s : Sheet) (c : ℕ) (font : Font) (place : Place) → IsHeld s → IsHeld (character output s c font place).edge
 unfolding character
@@ -97,26 +61,15 @@ glyph-held output s name font place h = letters-held s (cells_of font (glyph_pri
 
 text-held : (e : FillEdge) (cs : List ℕ) (font : Font) (place : Place) → IsHeld e.sheet → IsHeld (text e cs font place).edge.sheet
 unfolding text
-text-held e cs font place h = elim (cases_Bool (length cs == 0)) [
-  | inl z ↦ rw z h
-  | inr z ↦ rw z (characters-held (opening e place).edge.output (opening e place).edge.sheet cs font place (opening-held e place h))
-]
+text-held e cs font place h = grind (arith, characters-held, opening-held)
 
 tab-held : (e : FillEdge) (font : Font) (place : Place) → IsHeld e.sheet → IsHeld (tab e font place).edge.sheet
 unfolding tab
-tab-held e font place h =
-    let f = (opening e place).edge in
-    elim (cases_Bool f.sheet.literal) [
-      | inl l ↦ rw l (letters-held f.sheet (replicate (to_stop f.sheet.cells) blank) place (opening-held e place h))
-      | inr l ↦ rw l (letter-held f.sheet (cell_of font 32) place (opening-held e place h))
-    ]
+tab-held e font place h = grind (arith, letters-held, opening-held, letter-held)
 
 broken-held : (s : Sheet) → IsHeld s → IsHeld (broken s).edge
 unfolding broken
-broken-held s h = elim (cases_Bool (length s.cells == 0)) [
-  | inl z ↦ rw z h
-  | inr z ↦ rw z (record { gap_within = omega arith; word_within = omega arith; bounded = lit≤ tt })
-]
+broken-held s h = grind arith
 
 ended-held : (e : FillEdge) → IsHeld e.sheet → IsHeld (ended e).edge.sheet
 unfolding ended
@@ -124,24 +77,14 @@ ended-held e h = broken-held e.sheet h
 
 heading-held : (e : FillEdge) → IsHeld e.sheet → IsHeld (heading e).edge.sheet
 unfolding heading
-heading-held e h =
-    let k = ended-held e h in
-    elim (cases_Bool (length e.sheet.cells == 0)) [
-      | inl z ↦ rw z k
-      | inr z ↦ rw z (record { gap_within = k.gap_within; word_within = k.word_within; bounded = k.bounded })
-    ]
+heading-held e h = grind (arith, ended-held)
 
 after_tag-held : (e : FillEdge) (t : OpenTag) → IsHeld e.sheet → IsHeld (after_tag e t).edge.sheet
-after_tag-held e t h = elim (cases_Bool (fits_hang e.sheet t.hang)) [
-  | inl f ↦ rw f h
-  | inr f ↦ rw f (elim (cases_Bool t.ends_row) [ inl r ↦ rw r (ended-held e h) | inr r ↦ rw r h ])
-]
+after_tag-held e t h = grind (arith, ended-held)
 
 tag-held : (e : FillEdge) (tag : Option OpenTag) → IsHeld e.sheet → IsHeld (tag_ended e tag).edge.sheet
 tag-held e None h = ended-held e h
-tag-held e (Some t) h =
-    elim e.sheet.tag_begun as (λ b. IsHeld (if b then after_tag e t else nothing (record e { word = no_word })).edge.sheet)
-    [ true ↦ after_tag-held e t h | false ↦ h ]
+tag-held e (Some t) h = grind (arith, after_tag-held)
 
 tag_end-held : (e : FillEdge) (set_in : Option ℕ) → IsHeld e.sheet → IsHeld (tag_end e set_in).edge.sheet
 tag_end-held e None h = tag-held (without_tag e) e.tag h
@@ -153,10 +96,7 @@ empty-held s n h = record { gap_within = h.gap_within; word_within = h.word_with
 
 row_ended-held : (e : FillEdge) → IsHeld e.sheet → IsHeld (row_ended e).edge.sheet
 unfolding row_ended spaced
-row_ended-held e h = elim (cases_Bool (length e.sheet.cells == 0)) [
-  | inl z ↦ rw z (empty-held (ended e).edge.sheet 1 (ended-held e h))
-  | inr z ↦ rw z (ended-held e h)
-]
+row_ended-held e h = grind (arith, empty-held, ended-held)
 
 pub piece-held : (e : FillEdge) (p : Piece (List ℕ)) → IsHeld e.sheet → IsHeld (laid_piece e p).edge.sheet
 unfolding laid_piece one_character one_glyph paragraph spaced

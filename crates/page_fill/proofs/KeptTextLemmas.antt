@@ -1,10 +1,9 @@
 -- Characters of a row that is kept as it is: what their pieces lay, one after another, is that the row takes their cells.
-use Rattle.std.proofs.Common.{◌≡◌, ℕ, ◌+◌, ◌<◌, ◌≤◌, true, false, ◌==◌, List, [], ◌∷◌, ◌++◌, length, append-nil, append_assoc, length-append, refl, sym, ap, ◌∙◌, arith}
+use Rattle.std.proofs.Common.{◌≡◌, ℕ, ◌+◌, ◌<◌, ◌≤◌, true, false, ◌==◌, List, [], ◌∷◌, ◌++◌, length, append-nil, append_assoc, length-append, refl, ap, ◌∙◌, arith}
 use Rattle.std.specs.Prelude.{min}
 use Rattle.std.specs.List.{list_all}
 use Rattle.std.proofs.lemmas.List.{length-map}
 use Rattle.std.proofs.lemmas.List.Folds.{list_all-append}
-use Rattle.std.proofs.lemmas.Bool.Decides.{nat_tests}
 use Rattle.page_core_base.specs.declared.cells.Cell.{Cell}
 use Rattle.page_core_base.specs.declared.cells.Font.{Font}
 use Rattle.page_core_base.specs.declared.pieces.Piece.{Piece}
@@ -15,12 +14,12 @@ use Rattle.page_core_base.specs.Rows.{nothing}
 use Rattle.page_core_base.specs.laws.Views.{is_kept, letters_of, word_letters, is_printable, is_printable_ascii}
 use Rattle.page_fill_cells.specs.Cells.{cell_of, cells_of}
 use Rattle.page_fill_rows.specs.declared.TheConstants.{TAG_COLUMNS}
-use Rattle.page_fill_rows.specs.machine.Plain.{has_part_room, taken}
+use Rattle.page_fill_rows.specs.machine.Plain.{taken}
 use Rattle.page_fill_rows.specs.OpenRows.{Sheet}
 use Rattle.page_fill_rows.proofs.PlainLemmas.{are_plain, characters_of-plain, of-plain}
 use Rattle.page_fill.specs.laws.Views.{AreKept, goes_on, has_kept_room}
 use Rattle.page_fill.specs.declared.edges.FillEdge.{FillEdge}
-use Rattle.page_fill.specs.machine.Fill.{laid, laid_piece, on_sheet, text}
+use Rattle.page_fill.specs.machine.Fill.{laid, laid_piece, on_sheet}
 use Rattle.page_fill.proofs.LetteredPieces.{text-printable}
 use Rattle.page_fill.proofs.PlainWordLemmas.{character-text, text-part}
 
@@ -33,9 +32,7 @@ counts-both : (columns m n : ℕ) → min (min (columns + m) TAG_COLUMNS + n) TA
 counts-both columns m n = omega arith
 
 taken-both : (s : Sheet) (front back : List Cell) → (length s.cells == 0) ≡ false → taken (taken s front) back ≡ taken s (front ++ back)
-taken-both s front back some =
-    let more : (length (s.cells ++ front) == 0) ≡ false = rw (length-append s.cells front) (grind (arith, nat_tests, some)) in
-    rw (some, more, append_assoc s.cells front back, length-append front back, counts-both s.tag_columns (length front) (length back)) refl
+taken-both s front back some = grind (arith, length-append, append_assoc, counts-both)
 
 with-both : (e : FillEdge) (front back : List Cell) → (length e.sheet.cells == 0) ≡ false → with_cells (with_cells e front) back ≡ with_cells e (front ++ back)
 with-both e [] back some = refl
@@ -44,10 +41,7 @@ with-both e (cell ∷ cells) (next ∷ more) some = ap (on_sheet e) (taken-both 
 
 with-goes-on : (e : FillEdge) (cells : List Cell) → goes_on e ≡ true → goes_on (with_cells e cells) ≡ true
 with-goes-on e [] goes = goes
-with-goes-on e (cell ∷ cells) goes =
-    let joined : e.word.is_joined ≡ true = grind (arith, goes) in
-    let literal : e.sheet.literal ≡ true = grind (arith, goes) in
-    rw (joined, literal, length-append e.sheet.cells (cell ∷ cells)) (grind (arith, nat_tests))
+with-goes-on e (cell ∷ cells) goes = grind (arith, length-append)
 
 with-length : (e : FillEdge) (cells : List Cell) → length (with_cells e cells).sheet.cells ≡ length e.sheet.cells + length cells
 with-length e [] = omega arith
@@ -57,35 +51,21 @@ with-length e (cell ∷ cells) = length-append e.sheet.cells (cell ∷ cells)
 text-kept : (e : FillEdge) (bytes : List ℕ) (font : Font) (place : Place) → is_kept (Text bytes font place) ≡ true → are_plain (cells_of font bytes) ≡ true
     → goes_on e ≡ true → length e.sheet.cells + length bytes ≤ CELLS → laid_piece e (Text bytes font place) ≡ nothing (on_sheet e (taken e.sheet (cells_of font bytes)))
 unfolding laid_piece
-text-kept e bytes font place kept plain goes room =
-    let printable = text-printable font bytes plain in
-    let some : (length bytes == 0) ≡ false = grind (arith, nat_tests, kept) in
-    let joined : e.word.is_joined ≡ true = grind (arith, goes) in
-    let fits : has_part_room e.sheet (length bytes) ≡ true = grind (arith, nat_tests, goes, room) in
-    ap (λ cs. text e cs font place) (characters_of-plain bytes printable) ∙ text-part e bytes font place printable some joined fits
+text-kept e bytes font place kept plain goes room = grind (arith, text-printable, characters_of-plain, text-part)
 
 -- a character of such a row
 char-kept : (e : FillEdge) (c : ℕ) (font : Font) (place : Place) → are_plain (cell_of font c ∷ []) ≡ true
     → goes_on e ≡ true → length e.sheet.cells + 1 ≤ CELLS → laid_piece e (Char c font place) ≡ nothing (on_sheet e (taken e.sheet (cell_of font c ∷ [])))
 unfolding laid_piece
-char-kept e c font place plain goes room =
-    let printable = text-printable font (c ∷ []) plain in
-    let joined : e.word.is_joined ≡ true = grind (arith, goes) in
-    let fits : has_part_room e.sheet 1 ≡ true = grind (arith, nat_tests, goes, room) in
-    character-text e c font place ∙ text-part e (c ∷ []) font place printable refl joined fits
+char-kept e c font place plain goes room = grind (arith, text-printable, character-text, text-part)
 
 -- a piece lays its cells
 piece-kept : (e : FillEdge) (p : Piece (List ℕ)) → is_kept p ≡ true → are_plain (letters_of p) ≡ true → goes_on e ≡ true
     → length e.sheet.cells + length (letters_of p) ≤ CELLS → laid_piece e p ≡ nothing (with_cells e (letters_of p))
 unfolding laid_piece
 piece-kept e (Text [] font place) kept plain goes room = absurd (grind (arith, kept))
-piece-kept e (Text (b ∷ bytes) font place) kept plain goes room =
-    let len : length (cells_of font (b ∷ bytes)) ≡ length (b ∷ bytes) = length-map (b ∷ bytes) (cell_of font) in
-    text-kept e (b ∷ bytes) font place kept plain goes (omega (arith, room, len))
-piece-kept e Split kept plain goes room =
-    let joined : e.word.is_joined ≡ true = grind (arith, goes) in
-    let literal : e.sheet.literal ≡ true = grind (arith, goes) in
-    rw (joined, literal) refl
+piece-kept e (Text (b ∷ bytes) font place) kept plain goes room = grind (arith, length-map, text-kept)
+piece-kept e Split kept plain goes room = grind arith
 piece-kept e (Char c font place) kept plain goes room = char-kept e c font place plain goes room
 piece-kept e (Glyph name font place) kept plain goes room = absurd (grind (arith, kept))
 piece-kept e (Tab font place) kept plain goes room = absurd (grind (arith, kept))
@@ -127,12 +107,4 @@ with-some e (cell ∷ cells) some = refl
 -- so do those of characters for which there is room
 pub kept-laid : (e : FillEdge) (bytes : List ℕ) (font : Font) (pieces : List (Piece (List ℕ))) → has_kept_room e bytes ≡ true → is_printable_ascii bytes ≡ true
     → AreKept bytes font pieces → laid e pieces ≡ nothing (on_sheet e (taken e.sheet (cells_of font bytes)))
-kept-laid e bytes font pieces room printable are =
-    let plain : are_plain (word_letters pieces) ≡ true = rw are.1 at (of-plain font bytes printable) in
-    let goes : goes_on e ≡ true = grind (arith, room) in
-    let len : length (cells_of font bytes) ≡ length bytes = length-map bytes (cell_of font) in
-    let within : length e.sheet.cells + length bytes ≤ CELLS = grind (arith, nat_tests, room) in
-    let some : 0 < length bytes = grind (arith, nat_tests, room) in
-    let fits : length e.sheet.cells + length (cells_of font bytes) ≤ CELLS = omega (arith, len, within) in
-    let more : 0 < length (cells_of font bytes) = omega (arith, some, len) in
-    pieces-kept e pieces are.0 plain goes (rw are.1 at fits) ∙ (ap (λ cells. nothing (with_cells e cells)) (sym are.1) ∙ ap nothing (with-some e (cells_of font bytes) more))
+kept-laid e bytes font pieces room printable are = grind (arith, of-plain, goes_on, length-map, pieces-kept, with-some)

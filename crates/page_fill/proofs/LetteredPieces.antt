@@ -1,5 +1,5 @@
 -- The pieces of a word of letters: what they lay, one after another, is what their cells lay.
-use Rattle.std.proofs.Common.{◌≡◌, ℕ, suc, ◌+◌, ◌<◌, ◌≤◌, true, false, not, ◌&&◌, ◌==◌, List, [], ◌∷◌, ◌++◌, length, map, replicate, length-append, refl, sym, ap, ◌∙◌, arith}
+use Rattle.std.proofs.Common.{◌≡◌, ℕ, suc, ◌+◌, ◌≤◌, true, false, not, ◌&&◌, ◌==◌, List, [], ◌∷◌, ◌++◌, length, map, replicate, length-append, refl, sym, ap, ◌∙◌, arith}
 use Rattle.std.specs.List.{list_all}
 use Rattle.std.proofs.lemmas.List.{length-replicate, map-append}
 use Rattle.std.proofs.lemmas.List.Folds.{list_all-append}
@@ -15,7 +15,7 @@ use Rattle.page_core_base.specs.laws.Views.{join_assoc, is_lettered, is_lettered
 use Rattle.page_fill_cells.specs.Cells.{cell_of, cells_of, blank}
 use Rattle.page_fill_rows.specs.machine.Plain.{has_word_room, spaced_by}
 use Rattle.page_fill_rows.specs.OpenRows.{Sheet, over}
-use Rattle.page_fill_rows.specs.machine.Sheets.{letters, opens, space}
+use Rattle.page_fill_rows.specs.machine.Sheets.{letters}
 use Rattle.page_fill_rows.proofs.AnywhereLemmas.{letters-anywhere, letters-length, space-anywhere, space-length}
 use Rattle.page_fill_rows.proofs.CharacterLemmas.{letters-append}
 use Rattle.page_fill_rows.proofs.PlainLemmas.{are_plain, characters_of-plain}
@@ -54,17 +54,13 @@ text-laid : (e : FillEdge) (bytes : List ℕ) (font : Font) (place : Place) → 
     → laid_piece e (Text bytes font place)
     ≡ join (opening e place) (over (letters (opening e place).edge.sheet (cells_of font bytes) place) (on_sheet (opening e place).edge))
 unfolding laid_piece
-text-laid e bytes font place word plain =
-    let printable = text-printable font bytes plain in
-    let some : (length bytes == 0) ≡ false = grind (arith, nat_tests, word) in
-    ap (λ cs. text e cs font place) (characters_of-plain bytes printable) ∙ text-plain e bytes font place printable some
+text-laid e bytes font place word plain = grind (arith, text-printable, characters_of-plain, text-plain)
 
 char-laid : (e : FillEdge) (c : ℕ) (font : Font) (place : Place) → are_plain (cell_of font c ∷ []) ≡ true
     → laid_piece e (Char c font place)
     ≡ join (opening e place) (over (letters (opening e place).edge.sheet (cell_of font c ∷ []) place) (on_sheet (opening e place).edge))
 unfolding laid_piece
-char-laid e c font place plain =
-    character-text e c font place ∙ text-plain e (c ∷ []) font place (text-printable font (c ∷ []) plain) refl
+char-laid e c font place plain = grind (arith, character-text, text-plain, text-printable)
 
 lettered : (p : Piece (List ℕ)) → is_lettered p ≡ true → IsLettered p
 lettered (Text bytes font place) is = record { word = rw (text-bytes font bytes) is; place = place; laid = λ e plain. text-laid e bytes font place is plain }
@@ -179,11 +175,7 @@ after-blanks e n (p ∷ word) blanks place placed is plain room opened =
 pub word-laid : (e : FillEdge) (word : List (Piece (List ℕ))) (place : Place) → e.word.is_placed ≡ false → e.sheet.literal ≡ false → (length e.sheet.cells == 0) ≡ false
     → is_lettered_word word ≡ true → are_plain (word_letters word) ≡ true → length e.sheet.cells + 1 + length (word_letters word) ≤ CELLS
     → laid e (Blank 1 false ∷ word) ≡ over (both e.sheet (word_letters word) place) (begun_on e)
-word-laid e word place placed filled some is plain room =
-    let free : length e.sheet.cells < CELLS = omega (arith, room) in
-    let spaced = space-length (opens e.sheet) place free in
-    after-blanks e 1 word (space (opens e.sheet) place) place placed is plain (omega (arith, spaced, room))
-    (λ p. opening-one (waiting e 1) p refl refl refl filled some ∙ ap (λ (m : Laid Sheet). over m (begun_on e)) (space-anywhere (opens e.sheet) p place free))
+word-laid e word place placed filled some is plain room = grind (arith, space-length, after-blanks, opening-one, space-anywhere)
 
 -- a word after blanks with which it has room in the row
 pub word-laid-after : (e : FillEdge) (m : ℕ) (word : List (Piece (List ℕ))) (place : Place) → e.word.is_placed ≡ false → is_lettered_word word ≡ true

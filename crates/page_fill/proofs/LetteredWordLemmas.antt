@@ -1,6 +1,5 @@
 -- Words of letters: those that the open row has room for go into it together, and one before which it ends begins the next row.
-use Rattle.std.proofs.Common.{◌≡◌, ℕ, zero, suc, ◌+◌, ◌-◌, ◌<◌, ◌≤◌, true, false, not, ◌&&◌, ◌||◌, ◌==◌, min, List, [], ◌∷◌, ◌++◌, length, map, replicate, take, drop, append-nil, append_assoc, length-append, length-drop, drop-drop, subst, refl, sym, ap, ◌∙◌, inl, inr, arith}
-use Rattle.std.specs.Prelude.{if◌then◌else◌}
+use Rattle.std.proofs.Common.{◌≡◌, ℕ, zero, suc, ◌+◌, ◌-◌, ◌<◌, ◌≤◌, true, false, ◌&&◌, ◌||◌, ◌==◌, min, List, [], ◌∷◌, ◌++◌, length, map, replicate, take, drop, append-nil, append_assoc, length-append, length-drop, drop-drop, subst, refl, sym, ap, ◌∙◌, inl, inr, arith}
 use Rattle.std.specs.List.{list_all}
 use Rattle.std.proofs.Math.Seq.{take-append_seam, drop-append_seam}
 use Rattle.std.proofs.lemmas.List.{length-map, length-replicate, length-take-le, map-append, take-append-drop, take-map, take_all}
@@ -17,10 +16,9 @@ use Rattle.page_core_base.specs.declared.limits.TheConstants.{CELLS}
 use Rattle.page_core_base.specs.Rows.{Laid, nothing, join}
 use Rattle.page_core_base.specs.laws.Views.{join_assoc, cells_in, blank_words, is_lettered_word, is_word, joined_cells, lettered_cells, lettered_pieces, word_letters, is_printable_ascii}
 use Rattle.page_fill_cells.proofs.PlaceLemmas.{in-drop, in-length, in-take}
-use Rattle.page_fill_rows.specs.declared.TheConstants.{TAG_COLUMNS}
 use Rattle.page_fill_rows.specs.OpenRows.{Sheet, over}
 use Rattle.page_fill_cells.specs.Cells.{blank, cell_columns, columns}
-use Rattle.page_fill_rows.specs.machine.Sheets.{emptied, gives, letters, opens, passes}
+use Rattle.page_fill_rows.specs.machine.Sheets.{emptied, gives, letters}
 use Rattle.page_fill_rows.specs.machine.Plain.{begun_with, blank_counted, ends_before, free_cells, has_word_room, next_free_cells, spaced_by, taken, word_end, word_start, words_taken, wraps_plain, wraps_words}
 use Rattle.page_fill_rows.proofs.PlainLemmas.{are_plain, cells-fit, columns-blanks, columns-cells, in-plain, spaced-room, taken-cells}
 use Rattle.page_fill_rows.proofs.WordStartLemmas.{start-append}
@@ -47,22 +45,16 @@ others-are word words all = grind (arith, all)
 
 words-are : (words : List (List (Piece (List ℕ)))) → list_all is_lettered_word words ≡ true → list_all is_word (all_bytes words) ≡ true
 words-are [] all = refl
-words-are (word ∷ words) all =
-    let first = word-is word (first-is word words all) in
-    let others = words-are words (others-are word words all) in
-    grind (arith, first, others)
+words-are (word ∷ words) all = grind (arith, word-is, first-is, others-are, words-are words (others-are word words all))
 
 lettered-bytes : (words : List (List (Piece (List ℕ)))) → bytes_of (lettered_cells words) ≡ blank_words (all_bytes words)
 unfolding lettered_cells blank_words
 lettered-bytes [] = refl
-lettered-bytes (word ∷ words) =
-    ap (λ (bytes : List ℕ). 32 ∷ bytes)
-    (map-append (λ (cell : Cell). cell.c) (word_letters word) (lettered_cells words) ∙ ap (λ (bytes : List ℕ). word_bytes word ++ bytes) (lettered-bytes words))
+lettered-bytes (word ∷ words) = grind (arith, map-append, word_bytes, lettered-bytes words)
 
 joined-bytes : (words : List (List (Piece (List ℕ)))) → bytes_of (joined_cells words) ≡ joined_words (all_bytes words)
 joined-bytes [] = refl
-joined-bytes (word ∷ words) =
-    map-append (λ (cell : Cell). cell.c) (word_letters word) (lettered_cells words) ∙ ap (λ (bytes : List ℕ). word_bytes word ++ bytes) (lettered-bytes words)
+joined-bytes (word ∷ words) = grind (arith, map-append, word_bytes, lettered-bytes)
 
 joined-length : (words : List (List (Piece (List ℕ)))) → length (joined_cells words) ≡ length (joined_words (all_bytes words))
 joined-length words = sym (length-map (joined_cells words) (λ (cell : Cell). cell.c)) ∙ ap (λ (bytes : List ℕ). length bytes) (joined-bytes words)
@@ -83,9 +75,7 @@ unfolding lettered_cells
 cells-split [] zero = refl
 cells-split [] (suc n) = refl
 cells-split (word ∷ words) zero = refl
-cells-split (word ∷ words) (suc n) =
-    ap (λ (cells : List Cell). blank ∷ (word_letters word ++ cells)) (cells-split words n)
-    ∙ ap (λ (cells : List Cell). blank ∷ cells) (sym (append_assoc (word_letters word) (lettered_cells (take n words)) (lettered_cells (drop n words))))
+cells-split (word ∷ words) (suc n) = grind (arith, append_assoc, cells-split words n)
 
 -- the first ones, if there are any
 joined-split : (words : List (List (Piece (List ℕ)))) (n : ℕ) → 0 < length (joined_cells (take n words))
@@ -93,18 +83,14 @@ joined-split : (words : List (List (Piece (List ℕ)))) (n : ℕ) → 0 < length
 joined-split [] zero some = absurd (omega (arith, some))
 joined-split [] (suc n) some = absurd (omega (arith, some))
 joined-split (word ∷ words) zero some = absurd (omega (arith, some))
-joined-split (word ∷ words) (suc n) some =
-    ap (λ (cells : List Cell). word_letters word ++ cells) (cells-split words n)
-    ∙ sym (append_assoc (word_letters word) (lettered_cells (take n words)) (lettered_cells (drop n words)))
+joined-split (word ∷ words) (suc n) some = grind (arith, cells-split, append_assoc)
 
 -- a first word after blanks is one of the first ones
 after-split : (blanks : ℕ) (word : List (Piece (List ℕ))) (words : List (List (Piece (List ℕ)))) (n : ℕ)
     → lettered_pieces 1 words ≡ lettered_pieces 1 (take n words) ++ lettered_pieces 1 (drop n words)
     → lettered_pieces blanks (word ∷ words) ≡ lettered_pieces blanks (word ∷ take n words) ++ lettered_pieces 1 (drop n words)
 unfolding lettered_pieces
-after-split blanks word words n others =
-    ap (λ (pieces : List (Piece (List ℕ))). Blank blanks false ∷ (word ++ pieces)) others
-    ∙ ap (λ (pieces : List (Piece (List ℕ))). Blank blanks false ∷ pieces) (sym (append_assoc word (lettered_pieces 1 (take n words)) (lettered_pieces 1 (drop n words))))
+after-split blanks word words n others = grind (arith, append_assoc)
 
 pieces-split : (words : List (List (Piece (List ℕ)))) (n : ℕ) → lettered_pieces 1 words ≡ lettered_pieces 1 (take n words) ++ lettered_pieces 1 (drop n words)
 unfolding lettered_pieces
@@ -135,22 +121,10 @@ record HasFree (s : Sheet) (count : ℕ) : Type 0 where
   pub columns : s.margin + columns s.cells + count ≤ s.width
 
 free-word : (s : Sheet) (blanks count : ℕ) → HasFree s (blanks + count) → has_word_room s blanks count ≡ true
-free-word s blanks count free =
-    let cells : length s.cells + blanks + count ≤ CELLS = omega (arith, free.cells) in
-    let wide : s.margin + columns s.cells + blanks + count ≤ s.width = omega (arith, free.columns) in
-    grind (arith, nat_tests, free.filled, free.some, cells, wide)
+free-word s blanks count free = grind arith
 
 free-spaced : (s : Sheet) (m count : ℕ) → HasFree s (m + count) → HasFree (spaced_by s m) count
-free-spaced s m count free =
-    let len : length (s.cells ++ replicate m blank) ≡ length s.cells + m = length-append s.cells (replicate m blank) ∙ ap (λ k. length s.cells + k) (length-replicate m blank) in
-    let wide : columns (s.cells ++ replicate m blank) ≡ columns s.cells + m =
-    sum_by-append cell_columns s.cells (replicate m blank) ∙ ap (λ n. columns s.cells + n) (columns-blanks m) in
-    record {
-      filled = free.filled;
-      some = let some = free.some in grind (arith, nat_tests, some, len);
-      cells = omega (arith, len, free.cells);
-      columns = omega (arith, wide, free.columns);
-    }
+free-spaced s m count free = grind (arith, length-append, length-replicate, sum_by-append, columns-blanks)
 
 free-after : (s : Sheet) (blanks : ℕ) (front : List Cell) (start count : ℕ) → are_plain front ≡ true → HasFree s (blanks + (length front + count))
     → HasFree (words_taken s blanks front start) count
@@ -168,56 +142,19 @@ free-after s blanks front start count plain free =
     }
 
 free-less : (s : Sheet) (m n : ℕ) → m ≤ n → HasFree s n → HasFree s m
-free-less s m n less free = record {
-  filled = free.filled;
-  some = free.some;
-  cells = omega (arith, less, free.cells);
-  columns = omega (arith, less, free.columns);
-}
+free-less s m n less free = grind arith
 
 free-reported : (s : Sheet) (count : ℕ) → s.literal ≡ false → (length s.cells == 0) ≡ false → 0 < count → count ≤ free_cells s → HasFree s count
-free-reported s count filled some above within =
-    let least : count ≤ min (CELLS - length s.cells) (s.width - s.margin - columns s.cells) = rw (filled, some) at within in
-    record { filled = filled; some = some; cells = omega (arith, least, above); columns = omega (arith, least, above) }
-
--- a row that has other cells and another last word
-abbrev row_with : Sheet → List Cell → ℕ → ℕ → ℕ → Sheet
-row_with s cells gap word tag = record s { cells = cells; gap = gap; word = word; tag_columns = tag; tag_begun = true }
+free-reported s count filled some above within = grind arith
 
 -- one word after blanks
 one-word : (s : Sheet) (blanks : ℕ) (cells : List Cell) → (length s.cells == 0) ≡ false → taken (spaced_by s blanks) cells ≡ words_taken s blanks cells 0
-one-word s blanks cells some =
-    let word : length s.cells + blanks ≡ length s.cells + blanks + 0 = omega arith in
-    let row = s.cells ++ replicate blanks blank ++ cells in
-    taken-cells s blanks cells some
-    ∙ ap (λ (n : ℕ). row_with s row (length s.cells) n (min (s.tag_columns + (blanks + length cells)) TAG_COLUMNS)) word
+one-word s blanks cells some = grind (arith, taken-cells)
 
 -- words, and others after them
 both-taken : (s : Sheet) (n : ℕ) (front back : List Cell) (k j : ℕ)
     → words_taken (words_taken s n front k) 1 back j ≡ words_taken s n (front ++ blank ∷ back) (length front + (1 + j))
-both-taken s n front back k j =
-    let spaced = s.cells ++ replicate n blank in
-    let row = spaced ++ front in
-    let one = length-append s.cells (replicate n blank) in
-    let two = length-append spaced front in
-    let len : length row ≡ length s.cells + n + length front = omega (arith, one, two, length-replicate n blank) in
-    let cells : row ++ replicate 1 blank ++ back ≡ spaced ++ (front ++ blank ∷ back) = append_assoc row (blank ∷ []) back ∙ append_assoc spaced front (blank ∷ back) in
-    let more : (length front + (1 + j) == 0) ≡ false = grind (arith, nat_tests) in
-    let whole = spaced ++ (front ++ blank ∷ back) in
-    let gap : (if j == 0 then length row else length row + 1 + (j - 1)) ≡ (if length front + (1 + j) == 0 then length s.cells else length s.cells + n + (length front + (1 + j) - 1)) =
-    elim (cases_Bool (j == 0)) [
-      | inl none ↦ let zero : j ≡ 0 = grind (arith, nat_tests, none) in rw (more, none) (omega (arith, zero, len))
-      | inr some ↦ let above : 0 < j = grind (arith, nat_tests, some) in rw (more, some) (omega (arith, above, len))
-    ] in
-    let word : length row + 1 + j ≡ length s.cells + n + (length front + (1 + j)) = omega (arith, len) in
-    let all = length-append front (blank ∷ back) in
-    let tag : min (min (s.tag_columns + (n + length front)) TAG_COLUMNS + (1 + length back)) TAG_COLUMNS ≡ min (s.tag_columns + (n + length (front ++ blank ∷ back))) TAG_COLUMNS =
-    omega (arith, all) in
-    let other_tag = min (min (s.tag_columns + (n + length front)) TAG_COLUMNS + (1 + length back)) TAG_COLUMNS in
-    ap (λ (l : List Cell). row_with s l (if j == 0 then length row else length row + 1 + (j - 1)) (length row + 1 + j) other_tag) cells
-    ∙ (ap (λ (g : ℕ). row_with s whole g (length row + 1 + j) other_tag) gap
-    ∙ (ap (λ (w : ℕ). row_with s whole (if length front + (1 + j) == 0 then length s.cells else length s.cells + n + (length front + (1 + j) - 1)) w other_tag) word
-    ∙ ap (λ (t : ℕ). row_with s whole (if length front + (1 + j) == 0 then length s.cells else length s.cells + n + (length front + (1 + j) - 1)) (length s.cells + n + (length front + (1 + j))) t) tag))
+both-taken s n front back k j = grind (arith, length-append, length-replicate, append_assoc)
 
 -- the row took blanks and words
 abbrev words_on : FillEdge → ℕ → List Cell → ℕ → FillEdge
@@ -259,12 +196,7 @@ words-fit : (e : FillEdge) (m : ℕ) (word : List (Piece (List ℕ))) (words : L
     → list_all is_lettered_word (word ∷ words) ≡ true → are_plain (joined_cells (word ∷ words)) ≡ true → HasFree e.sheet (suc m + length (joined_cells (word ∷ words)))
     → laid e (lettered_pieces (suc m) (word ∷ words)) ≡ nothing (words_on e (suc m) (joined_cells (word ∷ words)) (word_start (bytes_of (joined_cells (word ∷ words)))))
 unfolding lettered_cells lettered_pieces laid
-words-fit e m word [] placed all plain free =
-    let is = first-is word [] all in
-    let first : are_plain (word_letters word) ≡ true = front-is-plain (word_letters word) [] plain in
-    let len = length-append (word_letters word) [] in
-    let room : HasFree e.sheet (suc m + length (word_letters word)) = free-less e.sheet _ _ (omega (arith, len)) free in
-    rw (append-nil word, append-nil (word_letters word), last-start word is) (word-fits e m word placed is first room)
+words-fit e m word [] placed all plain free = grind (arith, first-is, front-is-plain, length-append, free-less, append-nil, last-start, word-fits)
 words-fit e m word (more ∷ words) placed all plain free =
     let is = first-is word (more ∷ words) all in
     let cells = word_letters word in
@@ -294,19 +226,12 @@ some-words : (e : FillEdge) (m : ℕ) (words : List (List (Piece (List ℕ)))) �
     → are_plain (joined_cells words) ≡ true → 0 < length (joined_cells words) → suc m + length (joined_cells words) ≤ free_cells e.sheet
     → laid e (lettered_pieces (suc m) words) ≡ nothing (words_on e (suc m) (joined_cells words) (word_start (bytes_of (joined_cells words))))
 some-words e m [] ready all plain there within = absurd (omega (arith, there))
-some-words e m (word ∷ words) ready all plain there within =
-    let placed : e.word.is_placed ≡ false = grind (arith, ready) in
-    let filled : e.sheet.literal ≡ false = grind (arith, ready) in
-    let some : (length e.sheet.cells == 0) ≡ false = grind (arith, nat_tests, ready) in
-    words-fit e m word words placed all plain (free-reported e.sheet _ filled some (omega arith) within)
+some-words e m (word ∷ words) ready all plain there within = grind (arith, words-fit, free-reported)
 
 -- ---- the first words of a text
 
 words-ready : (e : FillEdge) (blanks : ℕ) (cells : List Cell) (start : ℕ) → is_in_row e ≡ true → is_in_row (words_on e blanks cells start) ≡ true
-words-ready e blanks cells start ready =
-    let front = length-append e.sheet.cells (replicate blanks blank) in
-    let len = length-append (e.sheet.cells ++ replicate blanks blank) cells in
-    grind (arith, nat_tests, ready, front, len)
+words-ready e blanks cells start ready = grind (arith, length-append)
 
 -- those that are whole among so many bytes, and the others after them
 record IsFront (text : List ℕ) (fonts : List Font) (end : ℕ) (words : List (List (Piece (List ℕ)))) : Type 0 where
@@ -382,31 +307,17 @@ front-fits e blanks text fonts end some same plain is within least above =
     (some-fits e (blanks - 1) text fonts end same plain (is ∙ ap (λ (n : ℕ). whole_words text (free_cells e.sheet - n)) (sym one)) (omega (arith, within, one)) least above)
 
 word-ends : (s : Sheet) (count : ℕ) → s.literal ≡ false → (length s.cells == 0) ≡ false → length s.cells + 1 + count ≤ CELLS → free_cells s < 1 + count → ends_before s count ≡ true
-word-ends s count filled some room short =
-    let most : min (CELLS - length s.cells) (s.width - s.margin - columns s.cells) < 1 + count = rw (filled, some) at short in
-    let wide : s.width < s.margin + columns s.cells + 1 + count = omega (arith, most, room) in
-    grind (arith, nat_tests, filled, some, room, wide)
+word-ends s count filled some room short = grind arith
 
 -- after more blanks than one, the first word has room
 fits-first : (e : FillEdge) (blanks : ℕ) (text : List ℕ) → is_in_row e ≡ true → length e.sheet.cells + blanks + length text ≤ CELLS → fits_after e blanks text ≡ true
     → blanks + first_letters text ≤ free_cells e.sheet
-fits-first e blanks text ready room fits =
-    let filled : e.sheet.literal ≡ false = grind (arith, ready) in
-    let some : (length e.sheet.cells == 0) ≡ false = grind (arith, nat_tests, ready) in
-    let wide : e.sheet.margin + columns e.sheet.cells + blanks + first_letters text ≤ e.sheet.width = grind (arith, nat_tests, fits) in
-    let least = prefix_len-le-length (λ b. not (b == 32)) text in
-    rw (filled, some) (omega (arith, room, wide, least))
+fits-first e blanks text ready room fits = grind (arith, prefix_len-le-length)
 
 -- where it has none, there is one
 is-one : (e : FillEdge) (blanks : ℕ) (text : List ℕ) → is_in_row e ≡ true → length e.sheet.cells + blanks + length text ≤ CELLS → (blanks == 1 || fits_after e blanks text) ≡ true
     → free_cells e.sheet - blanks < first_letters text → blanks ≡ 1
-is-one e blanks text ready room fits short = elim (cases_Bool (blanks == 1)) [
-  | inl one ↦ grind (arith, nat_tests, one)
-  | inr more ↦
-      let after : fits_after e blanks text ≡ true = rw more at fits in
-      let within = fits-first e blanks text ready room after in
-      absurd (omega (arith, within, short))
-]
+is-one e blanks text ready room fits short = grind (arith, fits-first)
 
 -- the first one, before which the row ends
 first-wraps : (e : FillEdge) (blanks : ℕ) (text : List ℕ) (fonts : List Font) (word : List (Piece (List ℕ))) (words : List (List (Piece (List ℕ)))) → length fonts ≡ length text
@@ -445,9 +356,7 @@ wraps-first : (e : FillEdge) (blanks : ℕ) (text : List ℕ) (fonts : List Font
     (left : List (List (Piece (List ℕ)))) × AreSpaced (drop end text) (drop end fonts) left × (is_in_row given.edge ≡ true)
     × (laid e (lettered_pieces blanks words) ≡ join given (laid given.edge (lettered_pieces 1 left)))
 unfolding lettered_pieces
-wraps-first e blanks text fonts end same plain some room fits none is [] are ready =
-    let empty = ap (λ (bytes : List ℕ). length bytes) (text-is text fonts [] same are.1) in
-    absurd (omega (arith, some, empty))
+wraps-first e blanks text fonts end same plain some room fits none is [] are ready = grind arith
 wraps-first e blanks text fonts end same plain some room fits none is (word ∷ words) are ready =
     let cells = word_letters word in
     let rest = lettered_cells words in
@@ -481,44 +390,17 @@ wraps-first e blanks text fonts end same plain some room fits none is (word ∷ 
 
 -- a row that ends keeps its width and what is set for the next ones
 counted-same : (s : Sheet) → ((blank_counted s).width ≡ s.width) × ((blank_counted s).first ≡ s.first) × ((blank_counted s).literal ≡ s.literal)
-counted-same s = elim (cases_Bool (passes (opens s) blank)) [
-  | inl p ↦ rw p (refl, refl, refl)
-  | inr p ↦ rw p (refl, refl, refl)
-]
+counted-same s = grind arith
 
 -- a word begins the next row, and others go into it
 begun-taken : (s : Sheet) (front back : List Cell) (j : ℕ)
     → words_taken (taken (emptied s) front) 1 back j ≡ begun_with s (front ++ blank ∷ back) (length front + (1 + j))
-begun-taken s front back j =
-    let begun = taken (emptied s) front in
-    let cells : front ++ replicate 1 blank ++ back ≡ front ++ blank ∷ back = append_assoc front (blank ∷ []) back in
-    let gap : (if j == 0 then length front else length front + 1 + (j - 1)) ≡ length front + (1 + j) - 1 =
-    elim (cases_Bool (j == 0)) [
-      | inl none ↦ let zero : j ≡ 0 = grind (arith, nat_tests, none) in rw none (omega (arith, zero))
-      | inr some ↦ let above : 0 < j = grind (arith, nat_tests, some) in rw some (omega (arith, above))
-    ] in
-    let word : length front + 1 + j ≡ length front + (1 + j) = omega arith in
-    let all = length-append front (blank ∷ back) in
-    let tag : min (min (s.tag_columns + length front) TAG_COLUMNS + (1 + length back)) TAG_COLUMNS ≡ min (s.tag_columns + length (front ++ blank ∷ back)) TAG_COLUMNS =
-    omega (arith, all) in
-    let other_tag = min (min (s.tag_columns + length front) TAG_COLUMNS + (1 + length back)) TAG_COLUMNS in
-    let whole = front ++ blank ∷ back in
-    let last = length front + (1 + j) in
-    ap (λ (l : List Cell). row_with begun l (if j == 0 then length front else length front + 1 + (j - 1)) (length front + 1 + j) other_tag) cells
-    ∙ (ap (λ (g : ℕ). row_with begun whole g (length front + 1 + j) other_tag) gap
-    ∙ (ap (λ (w : ℕ). row_with begun whole (last - 1) w other_tag) word ∙ ap (λ (t : ℕ). row_with begun whole (last - 1) last t) tag))
+begun-taken s front back j = grind (arith, append_assoc, length-append)
 
 -- it has room for them
 free-begun : (s : Sheet) (front : List Cell) (count : ℕ) → s.literal ≡ false → (length front == 0) ≡ false → are_plain front ≡ true
     → length front + count ≤ min CELLS (s.width - s.first) → 0 < count → HasFree (taken (emptied s) front) count
-free-begun s front count filled some plain room above =
-    let wide = columns-cells front plain in
-    record {
-      filled = filled;
-      some = some;
-      cells = omega (arith, room);
-      columns = omega (arith, wide, room, above);
-    }
+free-begun s front count filled some plain room above = grind (arith, columns-cells)
 
 -- the first words, before which the row ends
 words-wrap : (e : FillEdge) (word : List (Piece (List ℕ))) (words : List (List (Piece (List ℕ)))) → e.sheet.literal ≡ false → list_all is_lettered_word (word ∷ words) ≡ true
@@ -527,9 +409,7 @@ words-wrap : (e : FillEdge) (word : List (Piece (List ℕ))) (words : List (List
     → laid e (lettered_pieces 1 (word ∷ words))
     ≡ over (wraps_words e.sheet (joined_cells (word ∷ words)) (word_start (bytes_of (joined_cells (word ∷ words))))) (begun_on e)
 unfolding lettered_cells lettered_pieces laid
-words-wrap e word [] filled all plain room first =
-    let is = first-is word [] all in
-    rw (append-nil word, append-nil (word_letters word), last-start word is) first
+words-wrap e word [] filled all plain room first = grind (arith, first-is, append-nil, last-start)
 words-wrap e word (more ∷ words) filled all plain room first =
     let is = first-is word (more ∷ words) all in
     let cells = word_letters word in
@@ -579,9 +459,7 @@ wraps-more : (e : FillEdge) (blanks : ℕ) (text : List ℕ) (fonts : List Font)
     → let given : Laid FillEdge = over (wraps_words e.sheet (cells_in (take end text) (take end fonts)) (word_start (take end text))) (begun_on e) in
     (left : List (List (Piece (List ℕ)))) × AreSpaced (drop end text) (drop end fonts) left × (is_in_row given.edge ≡ true)
     × (laid e (lettered_pieces blanks words) ≡ join given (laid given.edge (lettered_pieces 1 left)))
-wraps-more e blanks text fonts end same plain some room fits none is within least above [] are ready =
-    let empty = ap (λ (bytes : List ℕ). length bytes) (text-is text fonts [] same are.1) in
-    absurd (omega (arith, some, empty))
+wraps-more e blanks text fonts end same plain some room fits none is within least above [] are ready = grind arith
 wraps-more e blanks text fonts end same plain some room fits none is within least above (word ∷ words) are ready =
     let f = whole-front text fonts end (next_free_cells e.sheet) same plain is least above (word ∷ words) are in
     let front = take f.count (word ∷ words) in
@@ -658,10 +536,5 @@ none-left (word ∷ words) is = let len = ap (λ (cells : List Cell). length cel
 pub lays-all : (e : FillEdge) (blanks : ℕ) (text : List ℕ) (fonts : List Font) (rest : List ℕ) (own : List Font) (given : Laid FillEdge) → length rest ≡ 0
     → LaysUpTo e blanks text fonts rest own given → LaysWords e blanks text fonts given
 unfolding lettered_pieces laid
-lays-all e blanks text fonts [] own given none lays = λ words are ready.
-    let u = lays words are ready in
-    let empty = none-left u.0 u.1.1 in
-    let same : laid e (lettered_pieces blanks words) ≡ join given (laid given.edge (lettered_pieces 1 [])) =
-    u.3 ∙ ap (λ (left : List (List (Piece (List ℕ)))). join given (laid given.edge (lettered_pieces 1 left))) empty in
-    sym (same ∙ (rw (append-nil given.rows, append-nil given.notes) refl))
+lays-all e blanks text fonts [] own given none lays = grind (arith, none-left, append-nil)
 lays-all e blanks text fonts (b ∷ rest) own given none lays = absurd (omega (arith, none))

@@ -1,5 +1,5 @@
 -- What pieces of words lay is what their marks do.
-use Rattle.std.proofs.Common.{◌≡◌, ℕ, zero, suc, ◌==◌, Bool, true, false, not, ◌&&◌, ◌||◌, List, [], ◌∷◌, ◌++◌, length, replicate, map, Option, None, Some, inl, inr, refl, sym, ap, ◌∙◌, append-nil}
+use Rattle.std.proofs.Common.{◌≡◌, ℕ, zero, suc, ◌==◌, Bool, true, false, not, ◌&&◌, ◌||◌, List, [], ◌∷◌, ◌++◌, length, replicate, map, Option, None, Some, inl, inr, refl, sym, ap, ◌∙◌, append-nil, arith}
 use Rattle.std.specs.Prelude.{if◌then◌else◌}
 use Rattle.std.proofs.lemmas.Bool.{cases_Bool}
 use Rattle.page_core_base.specs.declared.cells.Cell.{Cell}
@@ -10,15 +10,14 @@ use Rattle.page_core_base.specs.declared.pieces.Piece.TheVariants.{Text, Glyph, 
 use Rattle.page_core_base.specs.declared.places.Place.{Place}
 use Rattle.page_core_base.specs.Rows.{Laid, nothing, join, seq}
 use Rattle.page_core_tables.specs.Glyphs.{Printing, char_printed, glyph_printed}
-use Rattle.page_core_base.specs.declared.limits.TheConstants.{CELLS}
 use Rattle.page_fill.specs.declared.edges.OpenWord.{OpenWord}
 use Rattle.page_fill_rows.specs.OpenRows.{Sheet, over, with_notes, characters_of, unknown_notes}
-use Rattle.page_fill_cells.specs.Cells.{blank, cell_of, cells_of}
-use Rattle.page_fill_rows.specs.machine.Sheets.{letter, letters, space, spaces, new_word, opens, passes}
+use Rattle.page_fill_cells.specs.Cells.{blank, cell_of}
+use Rattle.page_fill_rows.specs.machine.Sheets.{letter, letters, space, spaces, new_word, opens}
 use Rattle.page_fill_rows.specs.laws.Views.{put, character, characters, glyph}
 use Rattle.page_fill.specs.declared.edges.FillEdge.{FillEdge}
-use Rattle.page_fill.specs.machine.Fill.{laid_piece, text, one_character, one_glyph, tab, opening, reports_tab, stands, fixed_tab, filled_tab, on_sheet, blanks_wait, opened_word, glued_word}
-use Rattle.page_fill.specs.Words.{tab_notes, begun_word, after_cell, word_after}
+use Rattle.page_fill.specs.machine.Fill.{laid_piece, text, one_character, one_glyph, tab, opening, stands, fixed_tab, filled_tab, on_sheet, blanks_wait, opened_word, glued_word}
+use Rattle.page_fill.specs.Words.{tab_notes, after_cell, word_after}
 use Rattle.page_fill.proofs.Marks.{Mark, reported, opened, spaced, lettered, letters_of, printed_marks, character_marks, text_marks, tab_marks, blank_marks, opening_marks, is_of_words, piece_marks}
 use Rattle.page_fill.specs.laws.Views.{is_sound}
 use Rattle.page_fill.proofs.MarkRuns.{step, run, run-append}
@@ -48,8 +47,7 @@ notes-run s None place l ms e = e
 notes-run s (Some text) place l ms e = ap (with_notes (unknown_notes (Some text) place)) e
 
 printed-run : (s : Sheet) (p : Printing) (font : Font) (place : Place) → put s p font place ≡ run s (printed_marks p font place)
-printed-run s p font place =
-    notes-run s p.unknown place (letters s (cells_of font p.characters) place) (letters_of place (cells_of font p.characters)) (letters-run s (cells_of font p.characters) place)
+printed-run s p font place = grind (arith, notes-run, letters-run)
 
 character-run : (output : Output) (s : Sheet) (c : ℕ) (font : Font) (place : Place) → character output s c font place ≡ run s (character_marks output c font place)
 unfolding character character_marks
@@ -83,23 +81,11 @@ blanks-run s false n place = spaces-run (opens s) n place ∙ sym (opened-run s 
 
 letter-literal : (s : Sheet) (cell : Cell) (place : Place) → (letter s cell place).edge.literal ≡ s.literal
 unfolding letter
-letter-literal s cell place = elim (cases_Bool (passes s cell)) [
-  | inl p ↦ rw p refl
-  | inr p ↦ elim (cases_Bool (length s.cells == CELLS)) [
-    | inl q ↦ rw (p, q) refl
-    | inr q ↦ elim (cases_Bool (length s.cells == 0)) [ inl z ↦ rw (p, q, z) refl | inr z ↦ rw (p, q, z) refl ]
-  ]
-]
+letter-literal s cell place = grind arith
 
 space-literal : (s : Sheet) (place : Place) → (space s place).edge.literal ≡ s.literal
 unfolding space
-space-literal s place = elim (cases_Bool (length s.cells == 0)) [
-  | inl z ↦ rw z refl
-  | inr z ↦ elim (cases_Bool (passes s blank)) [
-    | inl p ↦ rw (z, p) refl
-    | inr p ↦ elim (cases_Bool (length s.cells == CELLS)) [ inl q ↦ rw (z, p, q) refl | inr q ↦ rw (z, p, q) refl ]
-  ]
-]
+space-literal s place = grind arith
 
 step-literal : (s : Sheet) (m : Mark) → (step s m).edge.literal ≡ s.literal
 step-literal s (reported m) = refl
@@ -129,17 +115,7 @@ AreStanding e empty = stands e ≡ (e.sheet.literal || (e.word.is_placed && empt
 pub opening-run : (e : FillEdge) (empty : Bool) (place : Place) → AreStanding e empty
     → opening e place ≡ over (run e.sheet (opening_marks e.sheet.literal empty e.word place)) (with_word e (after_cell e.sheet.literal e.word))
 unfolding opening run
-opening-run e empty place same = elim (cases_Bool e.word.is_joined) [
-  | inl j ↦ rw j refl
-  | inr j ↦
-      let stand = e.sheet.literal || (e.word.is_placed && empty) in
-      let begun = blanks-run e.sheet stand e.word.blanks place in
-      let ms = opened ∷ blank_marks stand e.word.blanks place in
-      rw (j, same) (
-      ap (λ l. with_notes (tab_notes (reports_tab e) place) (over l (with_word e (begun_word (reports_tab e))))) begun
-      ∙ ap (λ l. over l (with_word e (begun_word (reports_tab e)))) (tabs-run e.sheet (reports_tab e) place ms)
-      )
-]
+opening-run e empty place same = grind (arith, blanks-run, tabs-run)
 
 text-run : (e : FillEdge) (empty : Bool) (cs : List ℕ) (font : Font) (place : Place) → AreStanding e empty → (length cs == 0) ≡ false
     → text e cs font place ≡ over (run e.sheet (opening_marks e.sheet.literal empty e.word place ++ text_marks e.output cs font place)) (with_word e (after_cell e.sheet.literal e.word))
@@ -177,11 +153,7 @@ one_glyph-run e empty name font place h =
 tab_cell-run : (e : FillEdge) (w : OpenWord) (xs : List Mark) (font : Font) (place : Place)
     → seq (over (run e.sheet xs) (with_word e w)) (λ f. filled_tab f font place)
     ≡ over (run e.sheet (xs ++ (tab_marks (not w.is_reported) place ++ lettered (cell_of font 32) place ∷ []))) (with_word e (record w { is_reported = true }))
-tab_cell-run e w xs font place =
-    let t = (run e.sheet xs).edge in
-    let last = ap (with_notes (tab_notes (not w.is_reported) place)) (one-run t (cell_of font 32) place) ∙ tabs-run t (not w.is_reported) place (lettered (cell_of font 32) place ∷ []) in
-    ap (λ (l : Laid Sheet). over (join (run e.sheet xs) l) (with_word e (record w { is_reported = true }))) last
-    ∙ ap (λ l. over l (with_word e (record w { is_reported = true }))) (sym (run-append e.sheet xs (tab_marks (not w.is_reported) place ++ lettered (cell_of font 32) place ∷ [])))
+tab_cell-run e w xs font place = grind (arith, one-run, tabs-run, run-append)
 
 pub tab-run : (e : FillEdge) (empty : Bool) (font : Font) (place : Place) → AreStanding e empty → e.sheet.literal ≡ false
     → tab e font place ≡ over (run e.sheet (opening_marks e.sheet.literal empty e.word place ++ (tab_marks (not (after_cell e.sheet.literal e.word).is_reported) place ++ lettered (cell_of font 32) place ∷ [])))
@@ -201,10 +173,7 @@ text-empty e cs font place z = rw z refl
 pub piece-run : (e : FillEdge) (empty : Bool) (p : Piece (List ℕ)) → AreStanding e empty → is_of_words e.sheet.literal p ≡ true
     → laid_piece e p ≡ over (run e.sheet (piece_marks e.output e.sheet.literal empty e.word p)) (with_word e (word_after e.sheet.literal e.word p))
 unfolding laid_piece run
-piece-run e empty (Text bytes font place) h k = elim (cases_Bool (length (characters_of bytes) == 0)) [
-  | inl z ↦ rw z (text-empty e (characters_of bytes) font place z)
-  | inr z ↦ rw z (text-run e empty (characters_of bytes) font place h z)
-]
+piece-run e empty (Text bytes font place) h k = grind (arith, text-empty, text-run)
 piece-run e empty (Glyph name font place) h k = one_glyph-run e empty name font place h
 piece-run e empty (Char c font place) h k = one_character-run e empty c font place h
 piece-run e empty (Tab font place) h k = tab-run e empty font place h (elim (cases_Bool e.sheet.literal) [ inl t ↦ absurd (let q : false ≡ true = rw t at k in cc) | inr t ↦ t ])
@@ -216,10 +185,7 @@ piece-run e empty _ h k = cc
 -- ---- what waits after a piece
 
 unplaced-cell : (literal : Bool) (w : OpenWord) → is_sound w ≡ true → (after_cell literal w).is_placed ≡ false
-unplaced-cell literal w h = elim (cases_Bool w.is_joined) [
-  | inl j ↦ rw j (elim (cases_Bool w.is_placed) [ inl p ↦ absurd (let q : false ≡ true = rw (j, p) at h in cc) | inr p ↦ p ])
-  | inr j ↦ rw j refl
-]
+unplaced-cell literal w h = grind arith
 
 sound-unplaced : (w : OpenWord) → w.is_placed ≡ false → is_sound w ≡ true
 sound-unplaced w h = elim (cases_Bool w.is_joined) [ inl j ↦ rw (j, h) refl | inr j ↦ rw j refl ]
@@ -239,20 +205,12 @@ unplaced-stands e empty w s h = rw h refl
 
 -- nothing was put yet
 same-stands : (e : FillEdge) (empty : Bool) (w : OpenWord) → (e.word.is_placed ≡ false → w.is_placed ≡ false) → AreStanding e empty → AreStanding (with_word e w e.sheet) empty
-same-stands e empty w keeps same = elim (cases_Bool e.word.is_placed) [
-  | inl p ↦ elim (cases_Bool w.is_placed) [ inl q ↦ rw q (rw p at same) | inr q ↦ unplaced-stands e empty w e.sheet q ]
-  | inr p ↦ unplaced-stands e empty w e.sheet (keeps p)
-]
+same-stands e empty w keeps same = grind arith
 
 pub stands-after : (e : FillEdge) (empty : Bool) (p : Piece (List ℕ)) → is_sound e.word ≡ true → AreStanding e empty
     → AreStanding (with_word e (word_after e.sheet.literal e.word p) (run e.sheet (piece_marks e.output e.sheet.literal empty e.word p)).edge) empty
 unfolding run
-stands-after e empty (Text bytes font place) h same = elim (cases_Bool (length (characters_of bytes) == 0)) [
-  | inl z ↦ rw z (same-stands e empty (opened_word e.word) (λ u. u) same)
-  | inr z ↦
-      let ms = opening_marks e.sheet.literal empty e.word place ++ text_marks e.output (characters_of bytes) font place in
-      rw z (unplaced-stands e empty (after_cell e.sheet.literal e.word) (run e.sheet ms).edge (unplaced-cell e.sheet.literal e.word h))
-]
+stands-after e empty (Text bytes font place) h same = grind arith
 stands-after e empty (Glyph name font place) h same = unplaced-stands e empty (after_cell e.sheet.literal e.word) (run e.sheet (opening_marks e.sheet.literal empty e.word place ++ printed_marks (glyph_printed e.output name) font place)).edge (unplaced-cell e.sheet.literal e.word h)
 stands-after e empty (Char c font place) h same = unplaced-stands e empty (after_cell e.sheet.literal e.word) (run e.sheet (opening_marks e.sheet.literal empty e.word place ++ character_marks e.output c font place)).edge (unplaced-cell e.sheet.literal e.word h)
 stands-after e empty (Tab font place) h same = unplaced-stands e empty (record (after_cell e.sheet.literal e.word) { is_reported = true }) (run e.sheet (opening_marks e.sheet.literal empty e.word place ++ (tab_marks (not (after_cell e.sheet.literal e.word).is_reported) place ++ lettered (cell_of font 32) place ∷ []))).edge (unplaced-cell e.sheet.literal e.word h)

@@ -1,5 +1,5 @@
 -- What a part of a word does to a row: the row takes it where it fits, and else ends before it.
-use Rattle.std.proofs.Common.{◌≡◌, ap, ◌∙◌, ℕ, ◌+◌, ◌<◌, ◌≤◌, ◌==◌, ◌||◌, Bool, true, false, List, [], ◌∷◌, ◌++◌, length, replicate, nat_lt, inl, inr, refl, arith, append-nil, length-append}
+use Rattle.std.proofs.Common.{◌≡◌, ap, ◌∙◌, ℕ, ◌+◌, ◌<◌, ◌≤◌, ◌==◌, Bool, true, false, List, [], ◌∷◌, ◌++◌, length, replicate, inl, inr, refl, arith, append-nil, length-append}
 use Rattle.std.proofs.Math.Bool.{and-false}
 use Rattle.std.proofs.lemmas.Bool.{cases_Bool}
 use Rattle.std.proofs.lemmas.Bool.Decides.{nat_tests}
@@ -28,25 +28,19 @@ use Rattle.page_fill.proofs.WordLaw.{apart, word-fits, passes-law, columns-appen
 -- ---- what a plain text holds
 
 prints-itself : (output : Output) (b : ℕ) → is_printable b ≡ true → char_printed output b ≡ known (b ∷ [])
-prints-itself output b byte =
-    let ascii : nat_lt b 0x80 ≡ true = grind (arith, nat_tests, byte) in
-    let other : (b == 0x09 || b == 0xA0) ≡ false = grind (arith, nat_tests, byte) in
-    rw (other, ascii) refl
+prints-itself output b byte = grind arith
 
 bytes-content : (output : Output) (bytes : List ℕ) (font : Font) (place : Place) → is_printable_ascii bytes ≡ true
     → text_content output bytes font place ≡ cell_content place (cells_of font bytes)
 unfolding text_content
 bytes-content output [] font place plain = refl
 bytes-content output (b ∷ bytes) font place plain =
-    let others = bytes-content output bytes font place (rest-plain b bytes plain) in
-    rw (prints-itself output b (first-plain b bytes plain), others) refl
+    grind (arith, rest-plain, prints-itself, first-plain, bytes-content output bytes font place (rest-plain b bytes plain))
 
 -- the content of a plain text, with nothing after it
 plain-content : (output : Output) (bytes : List ℕ) (font : Font) (place : Place) → is_printable_ascii bytes ≡ true
     → text_content output (characters_of bytes) font place ++ [] ≡ cell_content place (cells_of font bytes)
-plain-content output bytes font place plain =
-    append-nil (text_content output (characters_of bytes) font place)
-    ∙ (ap (λ cs. text_content output cs font place) (characters_of-plain bytes plain) ∙ bytes-content output bytes font place plain)
+plain-content output bytes font place plain = grind (arith, append-nil, characters_of-plain, bytes-content)
 
 some-plain : (bytes : List ℕ) → is_printable_ascii bytes ≡ true → 0 < length bytes → (length (characters_of bytes) == 0) ≡ false
 some-plain bytes plain some = let e : (length bytes == 0) ≡ false = grind (arith, nat_tests) in rw (characters_of-plain bytes plain) e
@@ -89,8 +83,7 @@ part-after literal w b font place joined some = rw (some, joined) refl
 part-words : (output : Output) (literal empty : Bool) (w : OpenWord) (b : List ℕ) (font : Font) (place : Place) → w.is_joined ≡ true → literal ≡ false → is_printable_ascii b ≡ true
     → (length (characters_of b) == 0) ≡ false → words_of output literal empty w (part b font place) ≡ later (apart 0 (cells_of font b) nowhere place ∷ [])
 unfolding words_of
-part-words output literal empty w b font place joined fill plain some =
-    rw (some, joined, fill) (ap (λ content. later (record { notes = []; blanks = 0; place = nowhere; content = content } ∷ [])) (plain-content output b font place plain))
+part-words output literal empty w b font place joined fill plain some = grind (arith, plain-content)
 
 abbrev two_parts : List ℕ → List ℕ → Font → Place → List Item
 two_parts a b font place = shown (Text a font place) ∷ shown Split ∷ shown (Text b font place) ∷ []
@@ -104,23 +97,14 @@ parts-words : (output : Output) (literal empty : Bool) (w : OpenWord) (a b : Lis
     → is_printable_ascii a ≡ true → is_printable_ascii b ≡ true → (length (characters_of a) == 0) ≡ false → (length (characters_of b) == 0) ≡ false
     → words_of output literal empty w (two_parts a b font place) ≡ later (apart w.blanks (cells_of font a) place place ∷ apart 0 (cells_of font b) nowhere place ∷ [])
 unfolding words_of
-parts-words output literal empty w a b font place new untabbed fill begun plain plain' some some' =
-    rw (some, some', new, untabbed, fill, begun, and-false w.is_placed)
-    (ap (λ x. later (record { notes = []; blanks = w.blanks; place = place; content = x }
-    ∷ record { notes = []; blanks = 0; place = nowhere; content = text_content output (characters_of b) font place ++ [] } ∷ [])) (plain-content output a font place plain)
-    ∙ ap (λ x. later (apart w.blanks (cells_of font a) place place ∷ record { notes = []; blanks = 0; place = nowhere; content = x } ∷ [])) (plain-content output b font place plain'))
+parts-words output literal empty w a b font place new untabbed fill begun plain plain' some some' = grind (arith, and-false, plain-content, apart)
 
 -- ---- a part
 
 part-laid : (e : FillEdge) (b : List ℕ) (font : Font) (place : Place) → e.word.is_joined ≡ true → e.sheet.literal ≡ false → is_printable_ascii b ≡ true → 0 < length b
     → filled e (part b font place) ≡ next_edge e e.word (one_word e.sheet (apart 0 (cells_of font b) nowhere place))
 unfolding groups
-part-laid e b font place joined fill plain some =
-    let s = some-plain b plain some in
-    let word = apart 0 (cells_of font b) nowhere place in
-    one-group e (part b font place)
-    ∙ (laid-by e (part b font place) e.word (later (word ∷ [])) (part-after e.sheet.literal e.word b font place joined s) (part-words e.output e.sheet.literal (length e.sheet.cells == 0) e.word b font place joined fill plain s)
-    ∙ ap (next_edge e e.word) (later-words e.sheet (word ∷ []) ∙ one-word e.sheet 0 (cells_of font b) nowhere place))
+part-laid e b font place joined fill plain some = grind (arith, some-plain, apart, one-group, laid-by, part-after, part-words, later-words, one-word)
 
 pub next-fits : (e : FillEdge) (b : List ℕ) (font : Font) (place : Place) → e.word.is_joined ≡ true → e.sheet.literal ≡ false → 0 < length e.sheet.cells
     → is_printable_ascii b ≡ true → 0 < length b → length e.sheet.cells + length b ≤ CELLS
@@ -172,8 +156,7 @@ with-columns : (cells : List Cell) (n : ℕ) (a : List ℕ) (font : Font) → is
 with-columns cells n a font plain = omega (arith, columns-append cells (replicate n blank ++ cells_of font a), columns-append (replicate n blank) (cells_of font a), columns-blanks n, columns-plain font a plain)
 
 with-length : (cells : List Cell) (n : ℕ) (a : List ℕ) (font : Font) → length (cells ++ (replicate n blank ++ cells_of font a)) ≡ length cells + n + length a
-with-length cells n a font =
-    omega (arith, length-append cells (replicate n blank ++ cells_of font a), length-append (replicate n blank) (cells_of font a), length-replicate n blank, length-map a (cell_of font))
+with-length cells n a font = grind (arith, length-append, length-replicate, length-map)
 
 pub both-fit : (e : FillEdge) (a b : List ℕ) (font : Font) (place : Place) → e.word.is_joined ≡ false → e.word.has_tab ≡ false → e.sheet.literal ≡ false
     → 0 < length e.sheet.cells → is_printable_ascii a ≡ true → 0 < length a → is_printable_ascii b ≡ true → 0 < length b

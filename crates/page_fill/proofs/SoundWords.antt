@@ -1,18 +1,15 @@
 -- A word that goes on is never one that is placed.
-use Rattle.std.proofs.Common.{◌≡◌, ℕ, ◌==◌, true, false, not, ◌&&◌, List, length, Option, None, Some, inl, inr, refl}
-use Rattle.std.specs.Prelude.{if◌then◌else◌}
+use Rattle.std.proofs.Common.{◌≡◌, ℕ, ◌==◌, true, false, not, ◌&&◌, List, length, Option, None, Some, inl, inr, refl, arith}
 use Rattle.std.proofs.lemmas.Bool.{cases_Bool}
 use Rattle.page_core_base.specs.declared.cells.Font.{Font}
 use Rattle.page_core_base.specs.declared.pieces.Piece.{Piece}
 use Rattle.page_core_base.specs.declared.pieces.Piece.TheVariants.{Text, Glyph, Char, Tab, Blank, Glue, Split, RowEnd, Indent, Literal, Tag, TagEnd, Heading}
 use Rattle.page_core_base.specs.declared.places.Place.{Place}
 use Rattle.page_core_base.specs.declared.pieces.TagForm.TheVariants as forms
-use Rattle.page_core_base.specs.Rows.{nothing}
 use Rattle.page_fill.specs.declared.edges.OpenTag.{OpenTag}
 use Rattle.page_fill_rows.specs.OpenRows.{characters_of}
 use Rattle.page_fill.specs.declared.edges.FillEdge.{FillEdge}
-use Rattle.page_fill.specs.machine.Fill.{laid_piece, text, one_character, one_glyph, tab, opening, ended, paragraph, spaced, row_ended, heading, tag_ended, tag_end, after_tag, fits_hang, without_tag}
-use Rattle.page_fill.specs.Words.{no_word}
+use Rattle.page_fill.specs.machine.Fill.{laid_piece, text, one_character, one_glyph, tab, opening, ended, paragraph, spaced, row_ended, heading, tag_ended, tag_end, without_tag}
 use Rattle.page_fill.specs.laws.Views.{is_sound}
 use Rattle.page_fill.proofs.MarkedPieces.{sound-after}
 
@@ -44,19 +41,10 @@ heading-sound : (e : FillEdge) → is_sound (heading e).edge.word ≡ true
 unfolding heading ended
 heading-sound e = elim (cases_Bool (length e.sheet.cells == 0)) [ inl z ↦ rw z refl | inr z ↦ rw z refl ]
 
-after_tag-sound : (e : FillEdge) (t : OpenTag) → is_sound (after_tag e t).edge.word ≡ true
-unfolding ended
-after_tag-sound e t = elim (cases_Bool (fits_hang e.sheet t.hang)) [
-  | inl f ↦ rw f refl
-  | inr f ↦ rw f (elim (cases_Bool t.ends_row) [ inl r ↦ rw r refl | inr r ↦ rw r refl ])
-]
-
 tag-sound : (e : FillEdge) (tag : Option OpenTag) → is_sound e.word ≡ true → is_sound (tag_ended e tag).edge.word ≡ true
 unfolding ended
 tag-sound e None h = refl
-tag-sound e (Some t) h =
-    elim e.sheet.tag_begun as (λ b. is_sound (if b then after_tag e t else nothing (record e { word = no_word })).edge.word ≡ true)
-    [ true ↦ after_tag-sound e t | false ↦ refl ]
+tag-sound e (Some t) h = grind arith
 
 tag_end-sound : (e : FillEdge) (set_in : Option ℕ) → is_sound e.word ≡ true → is_sound (tag_end e set_in).edge.word ≡ true
 tag_end-sound e None h = tag-sound (without_tag e) e.tag h

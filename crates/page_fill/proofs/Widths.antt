@@ -1,27 +1,19 @@
 -- Filling leaves the width of rows as it was.
-use Rattle.std.proofs.Common.{◌≡◌, ℕ, ◌==◌, List, [], ◌∷◌, length, replicate, inl, inr, refl, subst, ◌∙◌}
+use Rattle.std.proofs.Common.{◌≡◌, ℕ, ◌==◌, List, [], ◌∷◌, length, inl, inr, refl, ◌∙◌, arith}
 use Rattle.std.specs.Prelude.{if◌then◌else◌, drop}
 use Rattle.std.proofs.lemmas.Bool.{cases_Bool}
 use Rattle.page_core_base.specs.declared.cells.Cell.{Cell}
-use Rattle.page_core_base.specs.declared.limits.TheConstants.{CELLS}
 use Rattle.page_core_base.specs.Messages.{Message}
 use Rattle.page_fill_rows.specs.OpenRows.{Sheet}
-use Rattle.page_fill_cells.specs.Cells.{blank}
-use Rattle.page_fill.specs.Filled.{CellOrNote, shown, noted, RowWord, counted, with_cell, opens, row_begun, row_ended, full_row_ended, first_word, WordOutcome, fits, too_wide, too_many, after_note, outcome, by_word, by_blanks, one_word, rest_of_word, filling}
+use Rattle.page_fill.specs.Filled.{CellOrNote, shown, noted, RowWord, counted, with_cell, row_begun, full_row_ended, first_word, WordOutcome, fits, too_wide, too_many, after_note, outcome, by_word, by_blanks, one_word, rest_of_word, filling}
 use Rattle.page_fill.specs.Words.{RowWords, going_on}
-use Rattle.page_fill.specs.machine.Words.{is_wide}
 
 first_width : (s : Sheet) (content : List CellOrNote) → (first_word s content).edge.width ≡ s.width
 unfolding first_word
 first_width s [] = refl
 first_width s (noted m ∷ content) = first_width s content
-first_width s (shown cell place ∷ content) = elim (cases_Bool (length s.cells == CELLS)) [
-  | inl full ↦ rw full (first_width (row_begun (counted (full_row_ended s s.cells place).edge cell) (cell ∷ [])) content)
-  | inr room ↦ elim (cases_Bool (length s.cells == 0)) [
-    | inl z ↦ rw (room, z) (first_width (row_begun (counted s cell) (cell ∷ [])) content)
-    | inr z ↦ rw (room, z) (first_width (with_cell s cell) content)
-  ]
-]
+first_width s (shown cell place ∷ content) =
+    grind (arith, first_width (row_begun (counted (full_row_ended s s.cells place).edge cell) (cell ∷ [])) content, first_width (row_begun (counted s cell) (cell ∷ [])) content, first_width (with_cell s cell) content)
 
 -- the width of the row that is left
 abbrev HasWidth : ℕ → WordOutcome → Type 0
@@ -38,10 +30,7 @@ outcome_width : (s : Sheet) (content : List CellOrNote) → HasWidth s.width (ou
 unfolding outcome
 outcome_width s [] = refl
 outcome_width s (noted m ∷ content) = note_width s.width m (outcome s content) (outcome_width s content)
-outcome_width s (shown cell place ∷ content) = elim (cases_Bool (is_wide s cell)) [
-  | inl w ↦ rw w refl
-  | inr w ↦ elim (cases_Bool (length s.cells == CELLS)) [ inl full ↦ rw (w, full) refl | inr room ↦ rw (w, room) (outcome_width (with_cell s cell) content) ]
-]
+outcome_width s (shown cell place ∷ content) = grind (arith, outcome_width (with_cell s cell) content)
 
 started_width : (s : Sheet) (cells : List Cell) → (if length cells == 0 then s else row_begun s cells).width ≡ s.width
 started_width s cells = elim (cases_Bool (length cells == 0)) [ inl z ↦ rw z refl | inr z ↦ rw z refl ]
@@ -52,23 +41,15 @@ word_width s content w (too_wide taken) same h = first_width _ content ∙ (star
 word_width s content w (too_many notes taken place left) same h = first_width _ left ∙ h
 
 blanks_width : (content : List CellOrNote) (w : ℕ) (o : WordOutcome) → HasWidth w o → (by_blanks content o).edge.width ≡ w
-blanks_width content w (fits notes taken) h =
-    let s : Sheet = record taken { word = length taken.cells } in
-    word_width s content w (outcome s content) h (subst (λ (n : ℕ). HasWidth n (outcome s content)) h (outcome_width s content))
+blanks_width content w (fits notes taken) h = grind (arith, word_width, outcome_width)
 blanks_width content w (too_wide taken) h = first_width _ content ∙ h
 blanks_width content w (too_many notes taken place left) h = first_width _ content ∙ h
 
 one_width : (s : Sheet) (word : RowWord) → (one_word s word).edge.width ≡ s.width
-one_width s word = elim (cases_Bool (length s.cells == 0)) [
-  | inl z ↦ rw z (first_width (opens s) word.content)
-  | inr z ↦ rw z (blanks_width word.content s.width _ (outcome_width (opens s) (replicate word.blanks (shown blank word.place))))
-]
+one_width s word = grind (arith, first_width, blanks_width, outcome_width)
 
 rest_width : (s : Sheet) (content : List CellOrNote) → (rest_of_word s content).edge.width ≡ s.width
-rest_width s content = elim (cases_Bool (s.gap == 0)) [
-  | inl z ↦ rw z (first_width s content)
-  | inr z ↦ rw z (word_width s content s.width (outcome s content) refl (outcome_width s content))
-]
+rest_width s content = grind (arith, first_width, word_width, outcome_width)
 
 filling_width : (s : Sheet) (words : List RowWord) → (filling s words).edge.width ≡ s.width
 unfolding filling

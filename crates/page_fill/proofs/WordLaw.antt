@@ -1,5 +1,5 @@
 -- What a word does to a row: the row takes it where it fits, and else ends before it.
-use Rattle.std.proofs.Common.{◌≡◌, lit<, ap, ◌∙◌, ℕ, zero, suc, ◌+◌, ◌<◌, ◌≤◌, ◌==◌, min, Bool, true, false, List, [], ◌∷◌, ◌++◌, length, take, drop, replicate, inl, inr, refl, arith, append_assoc, append-nil, length-append}
+use Rattle.std.proofs.Common.{◌≡◌, ap, ◌∙◌, ℕ, zero, suc, ◌+◌, ◌<◌, ◌≤◌, ◌==◌, min, Bool, true, false, List, [], ◌∷◌, ◌++◌, length, drop, replicate, inl, inr, refl, arith, append_assoc, append-nil, length-append}
 use Rattle.std.specs.Prelude.{sum_by}
 use Rattle.std.proofs.lemmas.Bool.{cases_Bool}
 use Rattle.std.proofs.lemmas.Bool.Decides.{nat_tests}
@@ -110,11 +110,7 @@ first-more s (c ∷ cs) place some room =
 first-begins : (s : Sheet) (c : Cell) (cs : List Cell) (place : Place) → length s.cells ≡ 0 → length (c ∷ cs) ≤ CELLS
     → first_word s (cell_content place (c ∷ cs)) ≡ nothing (word_first s (c ∷ cs))
 unfolding first_word
-first-begins s c cs place none room =
-    let free : (length s.cells == CELLS) ≡ false = grind (arith, nat_tests) in
-    let empty : (length s.cells == 0) ≡ true = grind (arith, nat_tests) in
-    let rest = first-more (word_first s (c ∷ [])) cs place (lit< tt) (omega arith) in
-    rw (free, empty, rest) refl
+first-begins s c cs place none room = grind (arith, first-more)
 
 -- ---- blanks before a word
 
@@ -124,19 +120,14 @@ blanks-shown (suc n) place = ap (λ l. shown blank place ∷ l) (blanks-shown n 
 
 blanks-fit : (s : Sheet) (n : ℕ) (place : Place) → length s.cells + n ≤ CELLS → s.margin + columns s.cells + n ≤ s.width
     → outcome s (replicate n (shown blank place)) ≡ fits [] (more s (replicate n blank))
-blanks-fit s n place room fit =
-    let b = columns-blanks n in
-    let j = length-replicate n blank in
-    ap (outcome s) (blanks-shown n place) ∙ cells-fit s (replicate n blank) place (omega arith) (omega arith)
+blanks-fit s n place room fit = grind (arith, columns-blanks, length-replicate, blanks-shown, cells-fit)
 
 -- blanks of which one passes the width, after those that fit
 blanks-pass : (s : Sheet) (n k : ℕ) (place : Place) → s.literal ≡ false → length s.cells + n ≤ CELLS → k ≡ fitting s
     → k < n → outcome s (replicate n (shown blank place)) ≡ too_wide (more s (replicate k blank))
 unfolding outcome
 blanks-pass s zero k place fill room is past = absurd (omega arith)
-blanks-pass s (suc n) zero place fill room is past =
-    let wide : is_wide s blank ≡ true = grind (arith, nat_tests, columns-blank) in
-    rw (wide, append-nil s.cells) refl
+blanks-pass s (suc n) zero place fill room is past = grind (arith, columns-blank, append-nil)
 blanks-pass s (suc n) (suc k) place fill room is past =
     let here = not-wide s blank (omega (arith, columns-blank)) in
     let free = not-full s (omega arith) in
@@ -164,8 +155,7 @@ gapped s n = let full = more (opens s) (replicate n blank) in record full { word
 blanks-taken : (s : Sheet) (n : ℕ) (cells : List Cell) (p q : Place) → 0 < length s.cells → length s.cells + n ≤ CELLS
     → s.margin + columns s.cells + n ≤ s.width
     → one_word s (apart n cells p q) ≡ by_word (gapped s n) (cell_content q cells) (outcome (gapped s n) (cell_content q cells))
-blanks-taken s n cells p q some room fit =
-    word-begun s n cells p q (fits [] (more (opens s) (replicate n blank))) some (blanks-fit (opens s) n p room fit)
+blanks-taken s n cells p q some room fit = grind (arith, word-begun, blanks-fit)
 
 gapped-columns : (s : Sheet) (n : ℕ) → columns (s.cells ++ replicate n blank) ≡ columns s.cells + n
 gapped-columns s n = omega (arith, columns-append s.cells (replicate n blank), columns-blanks n)
@@ -175,13 +165,7 @@ gapped-length s n = omega (arith, length-append s.cells (replicate n blank), len
 
 pub word-fits : (s : Sheet) (n : ℕ) (cells : List Cell) (p q : Place) → 0 < length s.cells → length s.cells + n + length cells ≤ CELLS
     → s.margin + columns s.cells + n + columns cells ≤ s.width → one_word s (apart n cells p q) ≡ nothing (with_word s n cells)
-word-fits s n cells p q some room fit =
-    let w = gapped-columns s n in
-    let k = gapped-length s n in
-    let step = blanks-taken s n cells p q some (omega arith) (omega arith) in
-    let rest = cells-fit (gapped s n) cells q (omega arith) (omega arith) in
-    step ∙ (ap (by_word (gapped s n) (cell_content q cells)) rest
-    ∙ rw (k, append_assoc, tally-append s.tag_columns (replicate n blank) cells, has_cell-append s.tag_begun (replicate n blank) cells) refl)
+word-fits s n cells p q some room fit = grind (arith, gapped-columns, gapped-length, blanks-taken, cells-fit, append_assoc, tally-append, has_cell-append)
 
 -- a word of which there is nothing in the row
 row-left : (s : Sheet) (n : ℕ) → before_word (gapped s n) ≡ s.cells
@@ -208,20 +192,11 @@ word-passes s n c cs p q fill some room fit past =
 pub word-after_end : (s : Sheet) (n : ℕ) (c : Cell) (cs : List Cell) (p q : Place) → s.literal ≡ false → 0 < length s.cells → length s.cells + n ≤ CELLS
     → s.width < s.margin + columns s.cells + n → 0 < n → length (c ∷ cs) ≤ CELLS
     → one_word s (apart n (c ∷ cs) p q) ≡ word_wrapped s (fitting s) (c ∷ cs)
-word-after_end s n c cs p q fill some room past blanks short =
-    let k = fitting s in
-    let pass = blanks-pass (opens s) n k p fill room refl (omega arith) in
-    let step = word-begun s n (c ∷ cs) p q (too_wide (more (opens s) (replicate k blank))) some pass in
-    let left : take (length s.cells) (s.cells ++ replicate k blank) ≡ s.cells = take_at s.cells (replicate k blank) (length s.cells) refl in
-    let rest = first-begins (row_ended (more (opens s) (replicate k blank)) s.cells).edge c cs q refl short in
-    step ∙ rw (left, rest) refl
+word-after_end s n c cs p q fill some room past blanks short = grind (arith, blanks-pass, word-begun, take_at, first-begins)
 
 pub word-begins : (s : Sheet) (n : ℕ) (c : Cell) (cs : List Cell) (p q : Place) → length s.cells ≡ 0 → length (c ∷ cs) ≤ CELLS
     → one_word s (apart n (c ∷ cs) p q) ≡ nothing (word_first s (c ∷ cs))
-word-begins s n c cs p q none room =
-    let empty : (length s.cells == 0) ≡ true = grind (arith, nat_tests) in
-    let rest = first-begins (opens s) c cs q none room in
-    rw (empty, rest) refl
+word-begins s n c cs p q none room = grind (arith, first-begins)
 
 pub passes-law : (s : Sheet) (n : ℕ) (cells : List Cell) (p q : Place) → s.literal ≡ false → 0 < length s.cells
     → length s.cells + n + length cells ≤ CELLS → s.margin + columns s.cells + n ≤ s.width

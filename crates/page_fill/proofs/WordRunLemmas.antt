@@ -40,17 +40,11 @@ start-word bytes all = rw (start-letters bytes all) refl
 
 pub start-some : (bytes : List ℕ) → (word_start (32 ∷ bytes) == 0) ≡ false
 unfolding word_start
-start-some bytes = elim (cases_Bool (word_start bytes == 0)) [
-  | inl none ↦ rw none refl
-  | inr some ↦ rw some (grind (arith, nat_tests))
-]
+start-some bytes = grind arith
 
 pub start-blank : (bytes : List ℕ) → word_start (32 ∷ bytes) ≡ 1 + word_start bytes
 unfolding word_start
-start-blank bytes = elim (cases_Bool (word_start bytes == 0)) [
-  | inl none ↦ let zero : word_start bytes ≡ 0 = grind (arith, nat_tests, none) in rw none (omega (arith, zero))
-  | inr some ↦ rw some (omega arith)
-]
+start-blank bytes = grind arith
 
 letters-front : (bytes : List ℕ) (count : ℕ) → is_letters bytes ≡ true → is_letters (take count bytes) ≡ true
 letters-front [] zero all = refl
@@ -94,10 +88,7 @@ cut-more word next words more letters others =
 -- the last word
 cut-last : (word : List ℕ) (room : ℕ) → is_letters word ≡ true → length (32 ∷ word) ≤ room → Cut (word ∷ []) room
 unfolding blank_words
-cut-last word room letters long =
-    let one = start-word word letters in
-    let front : take room (32 ∷ (word ++ [])) ≡ 32 ∷ word = rw (append-nil word) (take_all room (32 ∷ word) long) in
-    (0, ap (λ (bytes : List ℕ). word_start bytes - 1) front ∙ omega (arith, one))
+cut-last word room letters long = grind (arith, start-word, append-nil, take_all)
 
 -- not the whole first word
 cut-first : (word : List ℕ) (words : List (List ℕ)) (room : ℕ) → is_letters word ≡ true → room ≤ length (32 ∷ word) → Cut (word ∷ words) room
@@ -158,9 +149,7 @@ whole-words (word ∷ words) room all = elim (cases_Bool (nat_le (length (joined
 -- where there is room for it, it is among the whole words
 first-whole : (word : List ℕ) (words : List (List ℕ)) (room : ℕ) → 0 < length word → length word ≤ room → 0 < whole_words (joined_words (word ∷ words)) room
 unfolding blank_words
-first-whole word [] room some fits =
-    let all : nat_le (length word) room ≡ true = grind (arith, nat_tests, fits) in
-    rw (append-nil word, all) some
+first-whole word [] room some fits = grind (arith, append-nil)
 first-whole word (next ∷ words) room some fits = elim (cases_Bool (nat_le (length (joined_words (word ∷ next ∷ words))) room)) [
   | inl all ↦ let len = length-append word (blank_words (next ∷ words)) in rw all (omega (arith, len, some))
   | inr more ↦
@@ -178,13 +167,7 @@ first-whole word (next ∷ words) room some fits = elim (cases_Bool (nat_le (len
 
 -- where no whole word is, there is no room for it
 pub none-whole : (word : List ℕ) (words : List (List ℕ)) (room : ℕ) → is_word word ≡ true → whole_words (joined_words (word ∷ words)) room ≡ 0 → room < length word
-none-whole word words room is none = elim (cases_lt room (length word)) [
-  | inl short ↦ short
-  | inr fits ↦
-      let some : 0 < length word = grind (arith, nat_tests, is) in
-      let whole = first-whole word words room some fits in
-      absurd (omega (arith, whole, none))
-]
+none-whole word words room is none = grind (arith, cases_lt, first-whole)
 
 letters-first : (word back : List ℕ) → is_letters word ≡ true → prefix_len (λ b. not (b == 32)) back ≡ 0 → prefix_len (λ b. not (b == 32)) (word ++ back) ≡ length word
 letters-first [] back letters none = none

@@ -18,8 +18,7 @@ blank-append (cell ∷ front) back = grind (arith, nat_tests, blank-append front
 pub part-blank : (cells : List Cell) (n : ℕ) → is_blank_row (row_of 0 cells) ≡ true → is_blank_row (row_of 0 (take n cells)) ≡ true
 part-blank cells n blank =
     let whole : is_blank_row (row_of 0 (take n cells ++ drop n cells)) ≡ true = ap (λ row. is_blank_row (row_of 0 row)) (take-append-drop n cells) ∙ blank in
-    let both : (is_blank_row (row_of 0 (take n cells)) && is_blank_row (row_of 0 (drop n cells))) ≡ true = sym (blank-append (take n cells) (drop n cells)) ∙ whole in
-    grind (arith, both)
+    grind (arith, blank-append)
 
 -- the first cells of a row are blank
 pub rest-blank : (cells : List Cell) (n : ℕ) → is_blank_row (row_of 0 (take n cells)) ≡ true → is_blank_row (row_of 0 cells) ≡ is_blank_row (row_of 0 (drop n cells))
@@ -34,6 +33,4 @@ some-stand cells n stands =
 -- all of its cells are one blank
 pub blanks-blank : (n : ℕ) (cell : Cell) → is_blank cell ≡ true → is_blank_row (row_of 0 (replicate n cell)) ≡ true
 blanks-blank zero cell blank = refl
-blanks-blank (suc n) cell blank =
-    let others : (length (trimmed (replicate n cell)) == 0) ≡ true = blanks-blank n cell blank in
-    before-blank cell (trimmed (replicate n cell)) ∙ rw (blank, others) refl
+blanks-blank (suc n) cell blank = grind (arith, before-blank, blanks-blank n cell blank)

@@ -1,9 +1,9 @@
 -- Places of a row that are known to have blanks.
-use Rattle.std.proofs.Common.{◌≡◌, ℕ, zero, suc, ◌+◌, ◌-◌, ◌<◌, ◌≤◌, max, true, List, [], ◌∷◌, ◌++◌, length, take, drop, get_or, replicate, append_assoc, append-nil, add-one, refl, sym, ap, inl, inr, ◌∙◌, arith}
+use Rattle.std.proofs.Common.{◌≡◌, ℕ, zero, suc, ◌+◌, ◌-◌, ◌<◌, ◌≤◌, max, true, List, [], ◌∷◌, ◌++◌, length, take, drop, get_or, replicate, append_assoc, append-nil, add-one, refl, sym, ap, ◌∙◌, arith}
 use Rattle.std.specs.List.{list_all}
-use Rattle.std.proofs.Math.Nat.{le-max_left, le-max_right}
 use Rattle.std.proofs.lemmas.Bool.Decides.{leb_tells, nat_tests}
 use Rattle.std.proofs.lemmas.List.{drop_at, get_or_append_left, get_or-take, get_or-append_right, get_or-replicate, length-replicate, length-take-le, replicate-append-replicate, take-take, take_more}
+use Rattle.std.proofs.lemmas.Grind.{common_steps}
 use Rattle.page_core_base.specs.declared.cells.Cell.{Cell}
 use Rattle.page_core_base.specs.declared.cells.Font.{Font}
 use Rattle.page_core_base.specs.Rows.{is_blank_row, row_of}
@@ -24,9 +24,7 @@ rest-blanks b bytes all = grind (arith, all)
 
 pub blanks-cells : (font : Font) (bytes : List ℕ) → list_all is_blank_byte bytes ≡ true → cells_of font bytes ≡ replicate (length bytes) (cell_of font 32)
 blanks-cells font [] all = refl
-blanks-cells font (b ∷ bytes) all =
-    ap (λ k. cell_of font k ∷ cells_of font bytes) (first-blank b bytes all)
-    ∙ ap (λ cells. cell_of font 32 ∷ cells) (blanks-cells font bytes (rest-blanks b bytes all))
+blanks-cells font (b ∷ bytes) all = grind (arith, first-blank, rest-blanks, blanks-cells font bytes (rest-blanks b bytes all))
 
 pub blanks-plain : (bytes : List ℕ) → list_all is_blank_byte bytes ≡ true → is_printable_ascii bytes ≡ true
 blanks-plain [] all = refl
@@ -54,9 +52,7 @@ one-more n cell = replicate-append-replicate n 1 cell ∙ ap (λ k. replicate k 
 -- places that have one cell each
 same-cells : (places : List Cell) (start n : ℕ) (cell : Cell) → ((k : ℕ) → start ≤ k → k < start + n → get_or places k cell ≡ cell)
     → start + n ≤ length places → take (start + n) places ≡ take start places ++ replicate n cell
-same-cells places start zero cell all room =
-    let none : start + zero ≡ start = omega arith in
-    ap (λ k. take k places) none ∙ sym (append-nil (take start places))
+same-cells places start zero cell all room = grind (arith, append-nil)
 same-cells places start (suc n) cell all room =
     let fewer = same-cells places start n cell (λ k h g. all k h (omega (arith, g))) (omega (arith, room)) in
     let more : start + suc n ≡ (start + n) + 1 = omega arith in
@@ -72,46 +68,23 @@ same-cells places start (suc n) cell all room =
 pub run-cells : (places : List Cell) (first last start count : ℕ) (font : Font) → HasRun places first last font
     → first ≤ start → start + count ≤ last → start + count ≤ length places
     → take (start + count) places ≡ take start places ++ replicate count (cell_of font 32)
-run-cells places first last start count font run from to room =
-    same-cells places start count (cell_of font 32) (λ k h g. run.at k (omega (arith, h, from)) (omega (arith, g, to))) room
+run-cells places first last start count font run from to room = grind (arith, same-cells)
 
 -- ---- what is known after places were put
 
 -- places were put up to an end
 pub cut-run : (old new : List Cell) (first last end : ℕ) (font : Font) → HasRun old first last font
     → ((k : ℕ) (d : Cell) → end ≤ k → get_or new k d ≡ get_or old k d) → HasRun new (max first end) last font
-cut-run old new first last end font run after = record {
-  at = λ k h g.
-      let from : first ≤ k = omega (arith, h, le-max_left first end) in
-      let past : end ≤ k = omega (arith, h, le-max_right first end) in
-      after k (cell_of font 32) past ∙ run.at k from g;
-}
+cut-run old new first last end font run after = grind arith
 
 -- blanks were put
 pub put-run : (old new : List Cell) (start count : ℕ) (font : Font) → take (start + count) new ≡ take start old ++ replicate count (cell_of font 32)
     → start ≤ length old → HasRun new start (start + count) font
-put-run old new start count font put within = record {
-  at = λ k h g.
-      let cell = cell_of font 32 in
-      let behind : k - start < count = omega (arith, h, g) in
-      sym (get_or-take (start + count) new k cell g)
-      ∙ (ap (λ cells. get_or cells k cell) put
-      ∙ (get_or-append_right (take start old) (replicate count cell) start k cell (length-take-le start old within) h
-      ∙ get_or-replicate count (k - start) cell cell behind));
-}
+put-run old new start count font put within = grind (arith, get_or-take, get_or-append_right, length-take-le, get_or-replicate)
 
 -- blanks were put in all places before those that are known
 pub front-run : (old : List Cell) (first last : ℕ) (font : Font) → HasRun old first last font → HasRun (put_at old 0 (replicate first (cell_of font 32))) 0 last font
-front-run old first last font run = record {
-  at = λ k h g.
-      let cell = cell_of font 32 in
-      let blanks = replicate first cell in
-      let n : length blanks ≡ first = length-replicate first cell in
-      elim (leb_tells first k) [
-        | inl from ↦ put-after old blanks 0 k cell (omega arith) (omega (arith, n, from.1)) ∙ run.at k from.1 g
-        | inr before ↦ get_or_append_left blanks (drop (0 + length blanks) old) cell k (omega (arith, n, before.1)) ∙ get_or-replicate first k cell cell before.1
-      ];
-}
+front-run old first last font run = grind (arith, common_steps, length-replicate, leb_tells, put-after, get_or_append_left, get_or-replicate)
 
 -- the first cells of a row are taken away where the others are blanks that are known: the places before those get blanks too
 pub record Kept (old new : List Cell) (last start len : ℕ) (font : Font) : Type 0 where
@@ -147,9 +120,7 @@ blank-places places last end font run to room =
 -- the same of the first cells of a row
 pub blank-front : (places : List Cell) (first last len end : ℕ) (font : Font) → HasRun places first last font → first ≡ 0 → end ≤ last → end ≤ len → len ≤ length places
     → is_blank_row (row_of 0 (take end (take len places))) ≡ true
-blank-front places first last len end font run begins to within room =
-    ap (λ cells. is_blank_row (row_of 0 cells)) (take-take end len places within)
-    ∙ blank-places places last end font (rw begins at run) to (omega (arith, within, room))
+blank-front places first last len end font run begins to within room = grind (arith, take-take, blank-places)
 
 -- some of the first places that are known to have blanks, as cells of the row
 pub known-front : (places : List Cell) (known len end : ℕ) → is_blank_row (row_of 0 (take known places)) ≡ true → end ≤ known → end ≤ len
@@ -164,5 +135,4 @@ grown-front old new start count known font blank within put =
     let cell = cell_of font 32 in
     let front : is_blank_row (row_of 0 (take start old)) ≡ true =
     ap (λ cells. is_blank_row (row_of 0 cells)) (sym (take-take start known old within)) ∙ part-blank (take known old) start blank in
-    let back : is_blank_row (row_of 0 (replicate count cell)) ≡ true = blanks-blank count cell refl in
-    ap (λ cells. is_blank_row (row_of 0 cells)) put ∙ (blank-append (take start old) (replicate count cell) ∙ rw (front, back) refl)
+    grind (arith, blanks-blank, blank-append)

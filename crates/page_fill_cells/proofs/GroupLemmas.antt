@@ -25,10 +25,7 @@ group-fails p bytes at count before other =
 -- a group that passes comes to those before it
 pub group-more : (p : ℕ → Bool) (bytes : List ℕ) (at count : ℕ) → list_all p (take at bytes) ≡ true → list_all p (take (at + count - at) (drop at bytes)) ≡ true
     → list_all p (take (at + count) bytes) ≡ true
-group-more p bytes at count before here =
-    let same : at + count - at ≡ count = omega arith in
-    let pass : list_all p (take count (drop at bytes)) ≡ true = rw same at here in
-    ap (list_all p) (take-add at count bytes) ∙ (both p (take at bytes) (take count (drop at bytes)) before ∙ pass)
+group-more p bytes at count before here = grind (arith, take-add, both)
 
 pub passes-front : (p : ℕ → Bool) (front back : List ℕ) → list_all p (front ++ back) ≡ true → list_all p front ≡ true
 passes-front p [] back pass = refl

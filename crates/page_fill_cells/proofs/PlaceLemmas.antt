@@ -1,10 +1,10 @@
 -- Places of a row of which some are put anew, and characters with a font each.
 use Rattle.std.proofs.Common.{◌≡◌, ℕ, zero, suc, ◌+◌, ◌-◌, ◌<◌, ◌≤◌, ◌==◌, Bool, true, ◌&&◌, List, [], ◌∷◌, ◌++◌, length, take, drop, set, get_or, replicate, append_assoc, length-append, length-drop, refl, sym, ap, ◌∙◌, arith}
 use Rattle.std.specs.List.{list_all}
-use Rattle.std.proofs.lemmas.Bool.Decides.{nat_tests}
 use Rattle.std.proofs.lemmas.List.{drop-take, drop_more, get_or-append_right, get_or-drop, length-map, length-replicate, length-take-le, map-append, replicate-append-replicate, set_at, take-append-drop, take-append-le, take_at, take_more}
 use Rattle.std.proofs.lemmas.List.Folds.{list_all-append}
 use Rattle.std.proofs.lemmas.List.Sums.{sum_by-append}
+use Rattle.std.proofs.lemmas.Grind.{common_steps}
 use Rattle.page_core_base.specs.declared.cells.Cell.{Cell}
 use Rattle.page_core_base.specs.declared.cells.Font.{Font}
 use Rattle.page_core_base.specs.declared.limits.TheConstants.{CELLS}
@@ -34,35 +34,16 @@ put-more old added start y room =
     ∙ ap (λ l. take start old ++ l) (sym (append_assoc added (y ∷ []) (drop (at + 1) old)) ∙ ap (λ n. (added ++ y ∷ []) ++ drop n old) (sym more))))
 
 pub put-front : {A : Type 0} (old added : List A) (start : ℕ) → start ≤ length old → take (start + length added) (put_at old start added) ≡ take start old ++ added
-put-front old added start within =
-    let before : length (take start old) ≡ start = length-take-le start old within in
-    let len : length (take start old ++ added) ≡ start + length added = length-append (take start old) added ∙ ap (λ n. n + length added) before in
-    ap (take (start + length added)) (sym (append_assoc (take start old) added (drop (start + length added) old)))
-    ∙ take_at (take start old ++ added) (drop (start + length added) old) (start + length added) len
+put-front old added start within = grind (arith, length-take-le, length-append, append_assoc, take_at)
 
 pub put-before : {A : Type 0} (old added : List A) (start k : ℕ) → k ≤ start → start ≤ length old → take k (put_at old start added) ≡ take k old
-put-before old added start k to within =
-    let before : length (take start old) ≡ start = length-take-le start old within in
-    take-append-le k (take start old) (added ++ drop (start + length added) old) (omega (arith, before, to))
-    ∙ (sym (take-append-le k (take start old) (drop start old) (omega (arith, before, to))) ∙ ap (take k) (take-append-drop start old))
+put-before old added start k to within = grind (arith, common_steps, length-take-le, take-append-le, take-append-drop)
 
 pub put-after : {A : Type 0} (old added : List A) (start k : ℕ) (d : A) → start ≤ length old → start + length added ≤ k → get_or (put_at old start added) k d ≡ get_or old k d
-put-after old added start k d within from =
-    let at = start + length added in
-    let before : length (take start old) ≡ start = length-take-le start old within in
-    let len : length (take start old ++ added) ≡ at = length-append (take start old) added ∙ ap (λ n. n + length added) before in
-    let back : at + (k - at) ≡ k = omega (arith, from) in
-    ap (λ l. get_or l k d) (sym (append_assoc (take start old) added (drop at old)))
-    ∙ (get_or-append_right (take start old ++ added) (drop at old) at k d len from
-    ∙ (get_or-drop at old (k - at) d ∙ ap (λ n. get_or old n d) back))
+put-after old added start k d within from = grind (arith, length-take-le, length-append, append_assoc, get_or-append_right, get_or-drop)
 
 pub put-length : {A : Type 0} (old added : List A) (start : ℕ) → start + length added ≤ length old → length (put_at old start added) ≡ length old
-put-length old added start within =
-    let at = start + length added in
-    let before : length (take start old) ≡ start = length-take-le start old (omega (arith, within)) in
-    let back = length-drop at old in
-    let parts = length-append added (drop at old) in
-    length-append (take start old) (added ++ drop at old) ∙ omega (arith, before, back, parts, within)
+put-length old added start within = grind (arith, length-take-le, length-drop, length-append)
 
 -- other places begin with what was put there
 pub put-first : {A : Type 0} (old added : List A) (n : ℕ) → length added ≡ n → take n (put_at old 0 added) ≡ added
@@ -77,40 +58,21 @@ in-length (b ∷ bytes) (f ∷ fonts) same = ap suc (in-length bytes fonts (omeg
 
 pub put-cell : (old : List Cell) (bytes : List ℕ) (start i b : ℕ) (font : Font) → i < length bytes → start + length bytes ≤ length old
     → set (put_at old start (cells_of font (take i bytes))) (start + i) (cell_of font (get_or bytes i b)) ≡ put_at old start (cells_of font (take (i + 1) bytes))
-put-cell old bytes start i b font within room =
-    let len : length (cells_of font (take i bytes)) ≡ i = length-map (take i bytes) (cell_of font) ∙ length-take-le i bytes (omega (arith, within)) in
-    let cell = cell_of font (get_or bytes i b) in
-    let more : cells_of font (take (i + 1) bytes) ≡ cells_of font (take i bytes) ++ cell ∷ [] =
-    ap (cells_of font) (take_more bytes i b within) ∙ map-append (cell_of font) (take i bytes) (get_or bytes i b ∷ []) in
-    let at : start + i ≡ start + length (cells_of font (take i bytes)) = ap (λ n. start + n) (sym len) in
-    ap (λ n. set (put_at old start (cells_of font (take i bytes))) n cell) at
-    ∙ (put-more old (cells_of font (take i bytes)) start cell (omega (arith, len, within, room)) ∙ ap (put_at old start) (sym more))
+put-cell old bytes start i b font within room = grind (arith, common_steps, length-map, length-take-le, take_more, map-append, put-more)
 
 -- of letters, each in its font
 pub put-letter : (old : List Cell) (bytes : List ℕ) (fonts : List Font) (start i b : ℕ) (font : Font) → i < length bytes → length fonts ≡ length bytes
     → start + length bytes ≤ length old
     → set (put_at old start (cells_in (take i bytes) (take i fonts))) (start + i) (record { c = get_or bytes i b; font = get_or fonts i font })
     ≡ put_at old start (cells_in (take (i + 1) bytes) (take (i + 1) fonts))
-put-letter old bytes fonts start i b font within same room =
-    let front = cells_in (take i bytes) (take i fonts) in
-    let some : length (take i bytes) ≡ i = length-take-le i bytes (omega (arith, within)) in
-    let own : length (take i fonts) ≡ i = length-take-le i fonts (omega (arith, within, same)) in
-    let len : length front ≡ i = in-length (take i bytes) (take i fonts) (own ∙ sym some) ∙ some in
-    let cell : Cell = record { c = get_or bytes i b; font = get_or fonts i font } in
-    let at : start + i ≡ start + length front = ap (λ n. start + n) (sym len) in
-    ap (λ n. set (put_at old start front) n cell) at
-    ∙ (put-more old front start cell (omega (arith, len, within, room)) ∙ ap (put_at old start) (sym (cells-more bytes fonts i b font within same)))
+put-letter old bytes fonts start i b font within same room = grind (arith, cells_in, length-take-le, in-length, put-more, cells-more)
 
 one-more : {A : Type 0} (n : ℕ) (y : A) → replicate n y ++ y ∷ [] ≡ replicate (n + 1) y
 one-more n y = replicate-append-replicate n 1 y
 
 pub put-same : {A : Type 0} (old : List A) (start i : ℕ) (y : A) → start + i < length old
     → set (put_at old start (replicate i y)) (start + i) y ≡ put_at old start (replicate (i + 1) y)
-put-same old start i y room =
-    let len : length (replicate i y) ≡ i = length-replicate i y in
-    let at : start + i ≡ start + length (replicate i y) = ap (λ n. start + n) (sym len) in
-    ap (λ n. set (put_at old start (replicate i y)) n y) at
-    ∙ (put-more old (replicate i y) start y (omega (arith, len, room)) ∙ ap (put_at old start) (one-more i y))
+put-same old start i y room = grind (arith, length-replicate, put-more, one-more)
 
 -- one more came to the front
 pub put-moved : {A : Type 0} (old : List A) (start i : ℕ) (d : A) → start + i < length old
@@ -158,17 +120,7 @@ in-blanks (suc count) font = ap (λ cells. cell_of font 32 ∷ cells) (in-blanks
 
 pub in-put-letters : (bytes text : List ℕ) (fonts own : List Font) (start : ℕ) → length fonts ≡ length bytes → length own ≡ length text → start + length text ≤ length bytes
     → cells_in (put_at bytes start text) (put_at fonts start own) ≡ put_at (cells_in bytes fonts) start (cells_in text own)
-in-put-letters bytes text fonts own start same len room =
-    let cells : length (cells_in text own) ≡ length text = in-length text own len in
-    let end = start + length text in
-    let front : length (take start fonts) ≡ length (take start bytes) =
-    length-take-le start fonts (omega (arith, same, room)) ∙ sym (length-take-le start bytes (omega (arith, room))) in
-    ap (λ n. cells_in (put_at bytes start text) (take start fonts ++ (own ++ drop (start + n) fonts))) len
-    ∙ (in-append (take start bytes) (text ++ drop end bytes) (take start fonts) (own ++ drop end fonts) front
-    ∙ (ap (λ c. c ++ cells_in (text ++ drop end bytes) (own ++ drop end fonts)) (sym (in-take start bytes fonts))
-    ∙ ap (λ c. take start (cells_in bytes fonts) ++ c)
-    (in-append text (drop end bytes) own (drop end fonts) len
-    ∙ ap (λ c. cells_in text own ++ c) (sym (in-drop end bytes fonts same) ∙ ap (λ n. drop (start + n) (cells_in bytes fonts)) (sym cells)))))
+in-put-letters bytes text fonts own start same len room = grind (arith, cells_in, in-length, length-take-le, in-append, in-take, in-drop)
 
 pub in-part : (bytes : List ℕ) (fonts : List Font) (start n : ℕ) → length fonts ≡ length bytes
     → cells_in (take n (drop start bytes)) (take n (drop start fonts)) ≡ take n (drop start (cells_in bytes fonts))
@@ -179,15 +131,13 @@ in-part bytes fonts start n same = sym (ap (take n) (in-drop start bytes fonts s
 pub part-passes : (p : ℕ → Bool) (n : ℕ) (bytes : List ℕ) → list_all p bytes ≡ true → (list_all p (take n bytes) ≡ true) × (list_all p (drop n bytes) ≡ true)
 part-passes p n bytes pass =
     let both = ap (list_all p) (sym (take-append-drop n bytes)) ∙ list_all-append p (take n bytes) (drop n bytes) in
-    let all : (list_all p (take n bytes) && list_all p (drop n bytes)) ≡ true = sym both ∙ pass in
-    (grind (arith, all), grind (arith, all))
+    grind arith
 
 pub put-passes : (p : ℕ → Bool) (bytes text : List ℕ) (start : ℕ) → list_all p bytes ≡ true → list_all p text ≡ true → list_all p (put_at bytes start text) ≡ true
 put-passes p bytes text start pass all =
     let front = (part-passes p start bytes pass).0 in
     let back = (part-passes p (start + length text) bytes pass).1 in
-    list_all-append p (take start bytes) (text ++ drop (start + length text) bytes)
-    ∙ rw front (list_all-append p text (drop (start + length text) bytes) ∙ rw (all, back) refl)
+    grind (arith, list_all-append)
 
 pub moved-passes : (bytes : List ℕ) (start n : ℕ) → is_printable_ascii bytes ≡ true → is_printable_ascii (take n (drop start bytes)) ≡ true
 moved-passes bytes start n pass = (part-passes is_printable n (drop start bytes) (part-passes is_printable start bytes pass).1).0
@@ -200,10 +150,7 @@ same-passes p (suc n) b one = rw one (same-passes p n b one)
 pub printable-ascii : (bytes : List ℕ) (n : ℕ) → is_printable_ascii bytes ≡ true → list_all is_ascii (take n bytes) ≡ true
 printable-ascii bytes zero all = refl
 printable-ascii [] (suc n) all = refl
-printable-ascii (b ∷ bytes) (suc n) all =
-    let rest = printable-ascii bytes n (rest-plain b bytes all) in
-    let first = first-plain b bytes all in
-    rw rest (grind (arith, nat_tests, first))
+printable-ascii (b ∷ bytes) (suc n) all = grind (arith, rest-plain, first-plain, printable-ascii bytes n (rest-plain b bytes all))
 
 -- their columns and their blanks
 pub in-columns : (bytes : List ℕ) (fonts : List Font) → length fonts ≡ length bytes → is_printable_ascii bytes ≡ true → columns (cells_in bytes fonts) ≡ length bytes
@@ -239,9 +186,7 @@ set-put l i x within =
 
 put-back : {A : Type 0} (old got new added : List A) (start n : ℕ) → got ≡ old → length got ≡ n → new ≡ put_at got start added → start + length added ≤ length old
     → take n (new ++ drop (length new) old) ≡ put_at old start added
-put-back old got new added start n is len put room =
-    let size : length new ≡ n = ap length put ∙ (put-length got added start (omega (arith, ap length is, room)) ∙ len) in
-    given-back new old n size ∙ (put ∙ ap (λ l. put_at l start added) is)
+put-back old got new added start n is len put room = grind (arith, put-length, given-back)
 
 abbrev pub AreHeld : List ℕ → List Font → Type 0
 AreHeld bytes fonts = (length bytes ≡ CELLS) × (length fonts ≡ CELLS) × (is_printable_ascii bytes ≡ true)
@@ -270,33 +215,15 @@ pub are-put : (bytes b b' : List ℕ) (fonts f f' : List Font) (self : List Cell
     → is_printable_ascii text ≡ true → length own ≡ length text → start + length text ≤ length self
     → ArePut (take m (b' ++ drop (length b') bytes)) (take n (f' ++ drop (length f') fonts)) self start text own
 are-put bytes b b' fonts f f' self start m n text own held view is len put same size set plain fit within =
-    let all = all-held bytes fonts self held view in
-    let room : start + length text ≤ length bytes = omega (arith, all, within) in
-    let others : start + length own ≤ length fonts = omega (arith, room, fit, held.0, held.1) in
-    let x = put-back bytes b b' text start m is len put room in
-    let y = put-back fonts f f' own start n same size set others in
-    let p : length (put_at bytes start text) ≡ CELLS = put-length bytes text start room ∙ held.0 in
-    let q : length (put_at fonts start own) ≡ CELLS = put-length fonts own start others ∙ held.1 in
-    let value = in-put-letters bytes text fonts own start (held.1 ∙ sym held.0) fit room ∙ ap (λ l. put_at l start (cells_in text own)) view in
-    rw (x, y) (record {
-      held = (p, q, put-passes is_printable bytes text start held.2 plain);
-      value = value;
-      len = in-length (put_at bytes start text) (put_at fonts start own) (q ∙ sym p) ∙ (p ∙ (sym held.0 ∙ all));
-    })
+    grind (arith, all-held, put-back, put-length, in-put-letters, cells_in, put-passes, is_printable, in-length)
 
 pub front-columns : (bytes : List ℕ) (fonts : List Font) (n : ℕ) → length fonts ≡ length bytes → n ≤ length bytes → is_printable_ascii bytes ≡ true
     → columns (take n (cells_in bytes fonts)) ≡ n
-front-columns bytes fonts n same within all =
-    let b : length (take n bytes) ≡ n = length-take-le n bytes within in
-    let f : length (take n fonts) ≡ n = length-take-le n fonts (omega (arith, same, within)) in
-    ap columns (in-take n bytes fonts) ∙ (in-columns (take n bytes) (take n fonts) (f ∙ sym b) (part-passes is_printable n bytes all).0 ∙ b)
+front-columns bytes fonts n same within all = grind (arith, length-take-le, in-take, in-columns, part-passes, is_printable)
 
 pub front-blank : (bytes : List ℕ) (fonts : List Font) (n : ℕ) → length fonts ≡ length bytes → n ≤ length bytes
     → is_blank_row (row_of 0 (take n (cells_in bytes fonts))) ≡ list_all is_blank_byte (take n bytes)
-front-blank bytes fonts n same within =
-    let b : length (take n bytes) ≡ n = length-take-le n bytes within in
-    let f : length (take n fonts) ≡ n = length-take-le n fonts (omega (arith, same, within)) in
-    ap (λ cells. is_blank_row (row_of 0 cells)) (in-take n bytes fonts) ∙ in-blank (take n bytes) (take n fonts) (f ∙ sym b)
+front-blank bytes fonts n same within = grind (arith, length-take-le, in-take, in-blank)
 
 -- the cells from a start on, which came to the front
 pub moved-front : {A : Type 0} (old : List A) (start len : ℕ) → start ≤ len → len ≤ length old

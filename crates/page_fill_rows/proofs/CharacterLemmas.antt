@@ -1,5 +1,5 @@
 -- Characters one by one.
-use Rattle.std.proofs.Common.{◌≡◌, ℕ, ◌+◌, ◌<◌, ◌≤◌, IsUtf8, chars, encode_utf8, encode_utf8_all, ◌==◌, List, [], ◌∷◌, ◌++◌, length, get_or, take, drop, refl, sym, ap, ◌∙◌, arith, inl, inr}
+use Rattle.std.proofs.Common.{◌≡◌, ℕ, ◌+◌, ◌<◌, ◌≤◌, IsUtf8, chars, encode_utf8, encode_utf8_all, ◌==◌, List, [], ◌∷◌, ◌++◌, length, get_or, take, drop, refl, sym, ap, arith, inl, inr}
 use Rattle.std.proofs.lemmas.List.{drop_more, drop_all, map-append, take-append-drop}
 use Rattle.std.proofs.lemmas.Bool.{cases_Bool}
 use Rattle.std.proofs.lemmas.Bool.Decides.{nat_tests}
@@ -39,16 +39,14 @@ unfolding letters
 letters-append s [] back place = refl
 letters-append s (cell ∷ front) back place =
     let first = letter s cell place in
-    let others = letters first.edge front place in
-    ap (λ laid. join first laid) (letters-append first.edge front back place) ∙ sym (join_assoc first others (letters others.edge back place))
+    grind (arith, join_assoc, letters-append first.edge front back place)
 
 pub parts-more : (s : Sheet) (bytes : List ℕ) (n : ℕ) (font : Font) (place : Place)
     → letters s (cells_of font bytes) place
     ≡ join (letters s (cells_of font (take n bytes)) place) (letters (letters s (cells_of font (take n bytes)) place).edge (cells_of font (drop n bytes)) place)
 parts-more s bytes n font place =
     let whole = ap (λ b. cells_of font b) (sym (take-append-drop n bytes)) in
-    let parts = map-append (cell_of font) (take n bytes) (drop n bytes) in
-    ap (λ cells. letters s cells place) (whole ∙ parts) ∙ letters-append s (cells_of font (take n bytes)) (cells_of font (drop n bytes)) place
+    grind (arith, map-append, letters-append)
 
 -- ---- texts
 

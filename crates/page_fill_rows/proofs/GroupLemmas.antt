@@ -7,6 +7,7 @@ use Rattle.std.proofs.lemmas.List.{length-map, length-take-le, take-append-drop,
 use Rattle.std.proofs.lemmas.List.Folds.{prefix_len-append}
 use Rattle.std.proofs.lemmas.Nat.{and_mask, leading_le, mod-pow-add, one_shl}
 use Rattle.std.proofs.lemmas.Simd.{chunk-drop, length-chunk, mask_l-mod}
+use Rattle.std.proofs.lemmas.Grind.{common_steps}
 use lib.Count.{count_leading_zeros}
 use lib.Lanes.{chunk, mask_l}
 use Rattle.page_fill_rows.specs.machine.Plain.{word_end, word_start}
@@ -29,18 +30,12 @@ some-set (suc k) (suc m) long some = let le = leading_le k (suc m / 2) in omega 
 -- the number of one more byte, in front of the others
 one-more : (k m start : ℕ) (is_blank : Bool) → start + count_leading_zeros k m ≡ k → (0 < m → 0 < k)
     → (if not (start == 0) then start + 1 else if is_blank then 1 else 0) + count_leading_zeros (suc k) (cond is_blank 1 0 + 2 * m) ≡ suc k
-one-more k m start true sum long =
-    let zeros = halved k (1 + 2 * m) m (omega arith) (omega arith) in
-    rw zeros (grind (arith, nat_tests, sum))
+one-more k m start true sum long = grind (arith, halved)
 one-more k zero start false sum long =
     let none = leading_of_zero k in
     let zeros = leading_of_zero (suc k) in
-    let first : start ≡ 0 = omega (arith, sum, none) in
-    rw first (omega (arith, zeros))
-one-more k (suc m) start false sum long =
-    let zeros = halved k (0 + 2 * suc m) (suc m) (omega arith) (omega arith) in
-    let some = some-set k (suc m) (long (omega arith)) (omega arith) in
-    rw zeros (grind (arith, nat_tests, sum, some))
+    grind arith
+one-more k (suc m) start false sum long = grind (arith, halved, some-set)
 
 long-enough : (k : ℕ) (bits : List Bool) → length bits ≤ k → 0 < mask_l bits → 0 < k
 long-enough zero [] within some = absurd (omega (arith, some))
@@ -55,9 +50,7 @@ pub start-by-mask : (k : ℕ) (bytes : List ℕ) → length bytes ≤ k → word
 unfolding word_start
 start-by-mask k [] within = let all = leading_of_zero k in omega (arith, all)
 start-by-mask zero (b ∷ bytes) within = absurd (omega (arith, within))
-start-by-mask (suc k) (b ∷ bytes) within =
-    let m = mask_l (map is_blank bytes) in
-    one-more k m (word_start bytes) (is_blank b) (start-by-mask k bytes (omega (arith, within))) (long-enough k (map is_blank bytes) (omega (arith, within, length-map bytes is_blank)))
+start-by-mask (suc k) (b ∷ bytes) within = grind (arith, common_steps, one-more, long-enough, length-map, start-by-mask k bytes (omega (arith, within)))
 
 -- one lane more
 bit-mask : (bit m low n : ℕ) → bit < 2 → m % 2 ^ n ≡ low → (bit + 2 * m) % 2 ^ suc n ≡ bit + 2 * low
@@ -65,10 +58,7 @@ bit-mask bit m low n small others =
     let half : (bit + 2 * m) / 2 ^ 1 ≡ m = omega arith in
     let least : (bit + 2 * m) % 2 ^ 1 ≡ bit = omega arith in
     let one : suc n ≡ n + 1 = omega arith in
-    let double : low * 2 + bit ≡ bit + 2 * low = omega arith in
-    ap (λ k. (bit + 2 * m) % 2 ^ k) one
-    ∙ (mod-pow-add (bit + 2 * m) n 1
-    ∙ (ap (λ h. h % 2 ^ n * 2 ^ 1 + (bit + 2 * m) % 2 ^ 1) half ∙ (ap (λ l. m % 2 ^ n * 2 + l) least ∙ (ap (λ h. h * 2 + bit) others ∙ double))))
+    grind (arith, mod-pow-add)
 
 -- the lowest bits of a mask are those of the first lanes
 front-mask : (bits : List Bool) (n : ℕ) → mask_l bits % 2 ^ n ≡ mask_l (take n bits)
@@ -81,12 +71,7 @@ front-mask (false ∷ bits) (suc n) = bit-mask 0 (mask_l bits) (mask_l (take n b
 -- the letters after the last blank of some first lanes
 pub front-start : (v : List ℕ) (n : ℕ) → length v ≡ 16 → n ≤ 16
     → word_start (take n v) + count_leading_zeros 64 (bit_and (mask_l (map is_blank v)) (1 * 2 ^ n % 2 ^ 64 - 1)) ≡ 64
-front-start v n long within =
-    let m = mask_l (map is_blank v) in
-    let mask : bit_and m (1 * 2 ^ n % 2 ^ 64 - 1) ≡ mask_l (map is_blank (take n v)) =
-    ap (λ k. bit_and m (k - 1)) (one_shl n 64 (omega (arith, within))) ∙ (and_mask m n ∙ (front-mask (map is_blank v) n ∙ ap mask_l (take-map is_blank n v))) in
-    let len = length-take-le n v (omega (arith, long, within)) in
-    ap (λ k. word_start (take n v) + count_leading_zeros 64 k) mask ∙ start-by-mask 64 (take n v) (omega (arith, len, within))
+front-start v n long within = grind (arith, common_steps, one_shl, and_mask, front-mask, take-map, length-take-le, start-by-mask)
 
 -- the bytes up to an end: those before a vector, and its first ones
 text-parts : (text : List ℕ) (end front n : ℕ) → front + n ≡ end → front ≤ length text → n ≤ 16 → take end text ≡ take front text ++ take n (chunk front 16 text)

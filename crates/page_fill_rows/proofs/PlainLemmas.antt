@@ -1,5 +1,5 @@
 -- A plain text that the open row has room for.
-use Rattle.std.proofs.Common.{◌≡◌, ℕ, ◌+◌, ◌<◌, ◌≤◌, zero, suc, true, false, ◌==◌, Bool, List, [], ◌∷◌, ◌++◌, length, replicate, min, take, drop, append_assoc, append-nil, length-append, ◌&&◌, ◌||◌, nat_lt, ◌<◌, refl, ap, sym, ◌∙◌, arith}
+use Rattle.std.proofs.Common.{◌≡◌, ℕ, ◌+◌, ◌<◌, ◌≤◌, zero, suc, true, false, ◌==◌, Bool, List, [], ◌∷◌, ◌++◌, length, replicate, min, take, drop, append_assoc, append-nil, length-append, ◌<◌, refl, ap, sym, ◌∙◌, arith}
 use Rattle.std.proofs.lemmas.Bool.Decides.{nat_tests}
 use Rattle.std.specs.List.{list_all}
 use Rattle.std.proofs.lemmas.List.Folds.{list_all-append}
@@ -22,8 +22,9 @@ use Rattle.page_fill_rows.specs.machine.Room.{IsSound}
 use Rattle.page_fill_rows.proofs.CharacterLemmas.{characters_of-text}
 use Rattle.page_core_base.specs.declared.page_settings.Output.{Output}
 use Rattle.std.proofs.lemmas.Str.{chars-IsAscii, IsUtf8-from_ascii}
-use Rattle.std.proofs.lemmas.Str.Ascii.{IsAscii-nil, IsAscii-cons}
+use Rattle.std.proofs.lemmas.Str.Ascii.{IsAscii-nil}
 use Rattle.std.specs.Str.{IsAscii}
+use Rattle.std.proofs.lemmas.Grind.{common_steps}
 pub use Rattle.page_fill_cells.proofs.PrintableLemmas.{columns-plain, first-plain, plain-columns, rest-plain}
 use Rattle.page_fill_rows.specs.machine.Plain.{has_room, taken, has_word_room, spaced_by}
 
@@ -31,8 +32,7 @@ use Rattle.page_fill_rows.specs.machine.Plain.{has_room, taken, has_word_room, s
 pub parts-plain : (n : ℕ) (bytes : List ℕ) → is_printable_ascii bytes ≡ true → (is_printable_ascii (take n bytes) ≡ true) × (is_printable_ascii (drop n bytes) ≡ true)
 parts-plain n bytes plain =
     let both = ap is_printable_ascii (sym (take-append-drop n bytes)) ∙ list_all-append is_printable (take n bytes) (drop n bytes) in
-    let all : (is_printable_ascii (take n bytes) && is_printable_ascii (drop n bytes)) ≡ true = sym both ∙ plain in
-    (grind (arith, all), grind (arith, all))
+    grind arith
 
 -- ---- cells of plain bytes
 
@@ -56,10 +56,7 @@ in-plain (b ∷ bytes) (font ∷ fonts) plain = rw (first-plain b bytes plain) (
 
 pub columns-cells : (cells : List Cell) → are_plain cells ≡ true → columns cells ≡ length cells
 columns-cells [] plain = refl
-columns-cells (cell ∷ cells) plain =
-    let one : columns (cell ∷ []) ≡ 1 = let c = first-column cell cells plain in omega (arith, c) in
-    let others = columns-cells cells (others-plain cell cells plain) in
-    sum_by-append cell_columns (cell ∷ []) cells ∙ omega (arith, one, others)
+columns-cells (cell ∷ cells) plain = grind (arith, common_steps, first-column, others-plain, sum_by-append, columns-cells cells (others-plain cell cells plain))
 
 -- ---- one cell
 
@@ -90,10 +87,7 @@ letter-fits s cell n place one room = letter-at s s.cells cell n place refl one 
 room-at : (s : Sheet) (cells : List Cell) (cell : Cell) (n : ℕ) → s.cells ≡ cells → cell_columns cell ≡ 1 → has_room s (suc n) ≡ true
     → has_room (taken s (cell ∷ [])) n ≡ true
 room-at s [] cell n is one room = rw is (grind (arith, nat_tests, one, rw is at room))
-room-at s (c ∷ cs) cell n is one room =
-    let last : columns (cell ∷ []) ≡ 1 = omega (arith, one) in
-    let sum : columns (s.cells ++ cell ∷ []) ≡ columns s.cells + 1 = sum_by-append cell_columns s.cells (cell ∷ []) ∙ ap (λ k. columns s.cells + k) last in
-    rw (has-some s.cells (length cs) (ap length is), sum, length-append s.cells (cell ∷ [])) (grind (arith, nat_tests, room))
+room-at s (c ∷ cs) cell n is one room = grind (arith, sum_by-append, has-some, length-append)
 
 -- room for the others
 pub room-less : (s : Sheet) (cell : Cell) (n : ℕ) → cell_columns cell ≡ 1 → has_room s (suc n) ≡ true → has_room (taken s (cell ∷ [])) n ≡ true
@@ -104,10 +98,8 @@ counts-more columns n = omega arith
 
 taken-at : (s : Sheet) (front : List Cell) (cell next : Cell) (cells : List Cell) → s.cells ≡ front
     → taken (taken s (cell ∷ [])) (next ∷ cells) ≡ taken s (cell ∷ next ∷ cells)
-taken-at s [] cell next cells is =
-    rw (has-more s.cells cell, counts-more s.tag_columns (length cells), append_assoc s.cells (cell ∷ []) (next ∷ cells)) refl
-taken-at s (c ∷ cs) cell next cells is =
-    rw (has-more s.cells cell, has-some s.cells (length cs) (ap length is), counts-more s.tag_columns (length cells), append_assoc s.cells (cell ∷ []) (next ∷ cells)) refl
+taken-at s [] cell next cells is = grind arith
+taken-at s (c ∷ cs) cell next cells is = grind (arith, has-more, has-some, counts-more, append_assoc)
 
 pub taken-more : (s : Sheet) (cell next : Cell) (cells : List Cell) → taken (taken s (cell ∷ [])) (next ∷ cells) ≡ taken s (cell ∷ next ∷ cells)
 taken-more s cell next cells = taken-at s s.cells cell next cells refl
@@ -128,25 +120,13 @@ cells-fit s cell (next ∷ cells) place plain room =
 pub letters-fits : (s : Sheet) (bytes : List ℕ) (font : Font) (place : Place) → (length bytes == 0) ≡ false → is_printable_ascii bytes ≡ true → has_room s (length bytes) ≡ true
     → letters s (cells_of font bytes) place ≡ nothing (taken s (cells_of font bytes))
 letters-fits s [] font place some plain room = absurd (grind (arith, some))
-letters-fits s (b ∷ bytes) font place some plain room =
-    cells-fit s (cell_of font b) (cells_of font bytes) place (of-plain font (b ∷ bytes) plain) (rw (length-map bytes (cell_of font)) room)
+letters-fits s (b ∷ bytes) font place some plain room = grind (arith, cells-fit, of-plain, length-map)
 
 -- a sound row with more cells of plain bytes is sound
 pub sound-cells : {blanks : ℕ} (cells more : List Cell) (count gap word tag tag-now : ℕ) → IsSound cells count gap word tag blanks
     → are_plain more ≡ true → length cells + length more ≤ CELLS → tag-now ≤ TAG_COLUMNS
     → IsSound (cells ++ more) (count + length more) gap word tag-now blanks
-sound-cells cells more count gap word tag tag-now sound plain room tagged =
-    let len : length (cells ++ more) ≡ length cells + length more = length-append cells more in
-    let sum : columns (cells ++ more) ≡ columns cells + length more = sum_by-append cell_columns cells more ∙ ap (λ k. columns cells + k) (columns-cells more plain) in
-    record {
-      bounded = omega (arith, len, room);
-      counted = ap (λ k. k + length more) sound.counted ∙ sym sum;
-      narrow = omega (arith, len, sound.narrow);
-      gap_within = sound.gap_within;
-      word_within = omega (arith, len, sound.word_within);
-      tag_within = tagged;
-      blanks_within = sound.blanks_within;
-    }
+sound-cells cells more count gap word tag tag-now sound plain room tagged = grind (arith, length-append, sum_by-append, columns-cells)
 
 -- the same of a plain text
 pub sound-more : {blanks : ℕ} (cells : List Cell) (bytes : List ℕ) (font : Font) (count gap word tag tag-now : ℕ) → IsSound cells count gap word tag blanks
@@ -164,10 +144,7 @@ blank-one = refl
 
 pub columns-blanks : (n : ℕ) → columns (replicate n blank) ≡ n
 columns-blanks zero = refl
-columns-blanks (suc n) =
-    let first : columns (blank ∷ []) ≡ 1 = omega (arith, blank-one) in
-    let others = columns-blanks n in
-    sum_by-append cell_columns (blank ∷ []) (replicate n blank) ∙ omega (arith, first, others)
+columns-blanks (suc n) = grind (arith, common_steps, blank-one, sum_by-append, columns-blanks n)
 
 has-front : (cells more : List Cell) → (length cells == 0) ≡ false → (length (cells ++ more) == 0) ≡ false
 has-front cells more some = let len = length-append cells more in grind (arith, nat_tests, some, len)
@@ -189,29 +166,13 @@ taken-cells s blanks cells some = rw (has-front s.cells (replicate blanks blank)
 -- a sound row with blanks before its next word is sound
 pub sound-spaces : {held : ℕ} (cells : List Cell) (blanks count gap word tag tag-now : ℕ) → IsSound cells count gap word tag held
     → length cells + blanks ≤ CELLS → tag-now ≤ TAG_COLUMNS → IsSound (cells ++ replicate blanks blank) (count + blanks) (length cells) (length cells + blanks) tag-now held
-sound-spaces cells blanks count gap word tag tag-now sound room tagged =
-    let front = length-append cells (replicate blanks blank) in
-    let len : length (cells ++ replicate blanks blank) ≡ length cells + blanks = omega (arith, front, length-replicate blanks blank) in
-    let wide = sum_by-append cell_columns cells (replicate blanks blank) in
-    let sum : columns (cells ++ replicate blanks blank) ≡ columns cells + blanks = omega (arith, wide, columns-blanks blanks) in
-    record {
-      bounded = omega (arith, len, room);
-      counted = ap (λ k. k + blanks) sound.counted ∙ sym sum;
-      narrow = omega (arith, len, sound.narrow);
-      gap_within = omega arith;
-      word_within = omega (arith, len);
-      tag_within = tagged;
-      blanks_within = sound.blanks_within;
-    }
+sound-spaces cells blanks count gap word tag tag-now sound room tagged = grind (arith, length-append, length-replicate, sum_by-append, columns-blanks)
 
 -- ---- its characters
 
 ascii-plain : (bytes : List ℕ) → is_printable_ascii bytes ≡ true → IsAscii bytes
 ascii-plain [] plain = IsAscii-nil
-ascii-plain (b ∷ bytes) plain =
-    let byte = first-plain b bytes plain in
-    let below : b < 128 = grind (arith, nat_tests, byte) in
-    IsAscii-cons b bytes below (ascii-plain bytes (rest-plain b bytes plain))
+ascii-plain (b ∷ bytes) plain = grind (arith, ascii-plain bytes (rest-plain b bytes plain))
 
 characters_of-ascii : (bytes : List ℕ) → IsAscii bytes → characters_of bytes ≡ bytes
 characters_of-ascii bytes ascii = characters_of-text bytes (IsUtf8-from_ascii bytes ascii) ∙ chars-IsAscii bytes ascii
@@ -221,18 +182,14 @@ characters_of-plain bytes plain = characters_of-ascii bytes (ascii-plain bytes p
 
 -- a plain byte prints itself
 prints-itself : (output : Output) (b : ℕ) → is_printable b ≡ true → char_printed output b ≡ known (b ∷ [])
-prints-itself output b byte =
-    let ascii : nat_lt b 0x80 ≡ true = grind (arith, nat_tests, byte) in
-    let other : (b == 0x09 || b == 0xA0) ≡ false = grind (arith, nat_tests, byte) in
-    rw (other, ascii) refl
+prints-itself output b byte = grind arith
 
 pub characters-plain : (output : Output) (s : Sheet) (bytes : List ℕ) (font : Font) (place : Place) → is_printable_ascii bytes ≡ true
     → characters output s bytes font place ≡ letters s (cells_of font bytes) place
 unfolding characters character letters
 characters-plain output s [] font place plain = refl
 characters-plain output s (b ∷ bytes) font place plain =
-    let others = characters-plain output (letter s (cell_of font b) place).edge bytes font place (rest-plain b bytes plain) in
-    rw (prints-itself output b (first-plain b bytes plain), append-nil (letter s (cell_of font b) place).rows, append-nil (letter s (cell_of font b) place).notes, others) refl
+    grind (arith, prints-itself, append-nil, characters-plain output (letter s (cell_of font b) place).edge bytes font place (rest-plain b bytes plain))
 
 -- ---- a word after blanks
 
@@ -240,10 +197,7 @@ pub space-fits : (s : Sheet) (place : Place) → s.literal ≡ false → (length
     → s.margin + columns s.cells + 1 ≤ s.width
     → space s place ≡ nothing (record s { cells = s.cells ++ blank ∷ []; word = length s.cells + 1; tag_columns = min (s.tag_columns + 1) TAG_COLUMNS; tag_begun = true })
 unfolding space
-space-fits s place literal some room wide =
-    let full : (length s.cells == CELLS) ≡ false = grind (arith, nat_tests, room) in
-    let passed : passes s blank ≡ false = grind (arith, nat_tests, literal, wide, blank-one) in
-    rw (some, passed, full, blank-one) refl
+space-fits s place literal some room wide = grind (arith, blank-one)
 
 pub spaces-fit : (s : Sheet) (n : ℕ) (place : Place) → s.literal ≡ false → (length s.cells == 0) ≡ false → length s.cells + suc n ≤ CELLS
     → s.margin + columns s.cells + suc n ≤ s.width
@@ -261,12 +215,7 @@ spaces-fit s (suc n) place literal some room wide =
     let last : columns (blank ∷ []) ≡ 1 = omega (arith, blank-one) in
     let sum : columns (s.cells ++ blank ∷ []) ≡ columns s.cells + 1 = sum_by-append cell_columns s.cells (blank ∷ []) ∙ ap (λ k. columns s.cells + k) last in
     let others = spaces-fit t n place literal (has-more s.cells blank) (omega (arith, len, room)) (omega (arith, sum, wide)) in
-    let word : length (s.cells ++ blank ∷ []) + suc n ≡ length s.cells + suc (suc n) = omega (arith, len) in
-    rw (space-fits s place literal some (omega (arith, room)) (omega (arith, wide)), others)
-    (rw (append_assoc s.cells (blank ∷ []) (replicate (suc n) blank), word, counts-more s.tag_columns n) refl)
+    grind (arith, space-fits, append_assoc, counts-more)
 
 pub spaced-room : (s : Sheet) (blanks n : ℕ) → has_word_room s blanks n ≡ true → has_room (spaced_by s blanks) n ≡ true
-spaced-room s blanks n room =
-    let sum : columns (s.cells ++ replicate blanks blank) ≡ columns s.cells + blanks = sum_by-append cell_columns s.cells (replicate blanks blank) ∙ ap (λ k. columns s.cells + k) (columns-blanks blanks) in
-    let len : length (s.cells ++ replicate blanks blank) ≡ length s.cells + blanks = length-append s.cells (replicate blanks blank) ∙ ap (λ k. length s.cells + k) (length-replicate blanks blank) in
-    rw (sum, len) (grind (arith, nat_tests, room))
+spaced-room s blanks n room = grind (arith, sum_by-append, columns-blanks, length-append, length-replicate)

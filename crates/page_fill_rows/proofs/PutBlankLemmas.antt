@@ -1,12 +1,12 @@
 -- Blanks of a row's last word, those together that the row has room for.
-use Rattle.std.proofs.Common.{◌≡◌, ℕ, ◌+◌, ◌-◌, ◌<◌, ◌≤◌, true, false, ◌==◌, List, ◌++◌, length, replicate, ap, sym, ◌∙◌, arith}
+use Rattle.std.proofs.Common.{◌≡◌, ℕ, ◌+◌, ◌-◌, ◌<◌, ◌≤◌, true, false, ◌==◌, List, ◌++◌, length, replicate, ap, ◌∙◌, arith}
 use Rattle.std.proofs.lemmas.Bool.Decides.{nat_tests}
 use Rattle.std.proofs.lemmas.List.{length-replicate, replicate-append-replicate}
 use Rattle.page_core_base.specs.declared.cells.Cell.{Cell}
 use Rattle.page_core_base.specs.declared.cells.Font.{Font}
 use Rattle.page_core_base.specs.declared.limits.TheConstants.{CELLS}
 use Rattle.page_core_base.specs.declared.places.Place.{Place}
-use Rattle.page_core_base.specs.Rows.{Laid, join, nothing}
+use Rattle.page_core_base.specs.Rows.{nothing}
 use Rattle.page_fill_cells.specs.Cells.{cell_of}
 use Rattle.page_fill_rows.specs.declared.TheConstants.{TAG_COLUMNS}
 use Rattle.page_fill_rows.specs.machine.Room.{IsSound}
@@ -37,10 +37,7 @@ blanks-parted s n part font place some less within =
     let cell = cell_of font 32 in
     let sum : part + (n - part) ≡ n = omega arith in
     let parts = replicate-append-replicate part (n - part) cell ∙ ap (λ (k : ℕ). replicate k cell) sum in
-    let others : Laid Sheet → Laid Sheet = λ l. join l (letters l.edge (replicate (n - part) cell) place) in
-    ap (λ cells. letters s cells place) (sym parts)
-    ∙ (letters-append s (replicate part cell) (replicate (n - part) cell) place
-    ∙ ap others (blanks-fit s part font place some within))
+    grind (arith, letters-append, blanks-fit)
 
 -- a sound row with blanks is sound
 pub sound-blanks : {blanks : ℕ} (cells : List Cell) (n : ℕ) (font : Font) (count gap word tag tag-now : ℕ) → IsSound cells count gap word tag blanks

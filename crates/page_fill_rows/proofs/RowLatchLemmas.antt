@@ -1,26 +1,21 @@
 -- How a latch over a sink of rows and a sink of messages takes items.
-use Rattle.std.proofs.Common.{◌≡◌, List, [], ◌++◌, Option, None, Some, is_some, false, refl, Result, Ok, Err, MatchOption, MatchResult, ◌∙◌, append-nil, sym}
+use Rattle.std.proofs.Common.{◌≡◌, List, [], ◌++◌, Option, None, Some, is_some, false, refl, Result, Ok, Err, MatchOption, MatchResult, ◌∙◌, append-nil, sym, arith}
 use Rattle.std.specs.Borrow.{GName}
 use Rattle.std.specs.Result.{result_err}
+use Rattle.std.proofs.lemmas.Grind.{common_steps}
 use Rattle.page_core_base.specs.Rows.{Laid, LaidRow}
-use Rattle.page_core_base.specs.laws.Views.{Gets, FailsAs, FailsBySink, Gives, IsSink, UpTo}
+use Rattle.page_core_base.specs.laws.Views.{Gets, FailsAs, FailsBySink, Gives, IsSink}
 use Rattle.page_fill_rows.specs.machine.RowPlans.{Going, Planned, Left, Seen, Stopped}
-use Rattle.page_core_base.proofs.SinkLemmas.{UpTo-all, UpTo-more, UpTo-within}
+use Rattle.page_core_base.proofs.SinkLemmas.{UpTo-more}
 use Rattle.page_core_base.specs.declared.faults.Fault.{Fault}
 use Rattle.page_core_base.specs.declared.faults.Fault.TheVariants.{WriteText, WriteNotes}
 use Rattle.page_core_base.specs.Messages.{Message}
-
--- what came up to a rest is a front of all
-front : {S I : Type 0} {gave within : S → List I → S → Type 0} → IsSink gave within → ((s t : S) (xs : List I) → gave s xs t → within s xs t)
-    → {s t : S} {all : List I} (rest : List I) → UpTo gave s all rest t → within s all t
-front k whole {s} {t} rest w = rw w.parts (k.before s t w.done rest (whole s t w.done w.given))
 
 -- sinks with the same loans, of which this came
 came_on : {R N K L : Type 0} {rs : Seen R LaidRow K} {ns : Seen N Message L} {plan : Planned R N K L} {a b : GName} {r : R} {n : N} {fault : Option Fault}
     {rows : List LaidRow} {notes : List Message} (t : R) (u : N) (next : Option Fault) (more : List LaidRow) (said : List Message) → rs.loans t ≡ rs.loans r → ns.loans u ≡ ns.loans n
     → Left rs ns plan a b r n fault rows notes → MatchOption next (Going rs ns plan t u more said) (Stopped rs ns plan t u) → Left rs ns plan a b t u next more said
-came_on t u next more said s m h came =
-    record { rows_loan = h.rows_loan; notes_loan = h.notes_loan; rows_same = s ∙ h.rows_same; notes_same = m ∙ h.notes_same; came = came }
+came_on t u next more said s m h came = grind arith
 
 -- with no fault yet, a call of the sink of rows gave rows
 pub row_given : {R N K L : Type 0} {rs : Seen R LaidRow K} {ns : Seen N Message L} → IsSink rs.gave rs.within → IsSink ns.gave ns.within
@@ -35,11 +30,7 @@ row_given k l whole t {fault = None} (Ok x) rows more notes none h g fails same 
   rows_failed = fails ∙ h.came.rows_failed;
   notes_failed = h.came.notes_failed;
 })
-row_given k l whole t {fault = None} (Err f) rows more notes none h g fails same = came_on t _ (Some f) more notes same refl h (record {
-  rows_came = UpTo-within k t rows more h.came.rows_came refl g;
-  notes_came = front l whole notes h.came.notes_came;
-  cause = rw fails.0 (rw h.came.rows_failed at fails.1);
-})
+row_given k l whole t {fault = None} (Err f) rows more notes none h g fails same = grind arith
 
 -- the same of the sink of messages
 pub note_given : {R N K L : Type 0} {rs : Seen R LaidRow K} {ns : Seen N Message L} → IsSink rs.gave rs.within → IsSink ns.gave ns.within
@@ -54,11 +45,7 @@ note_given k l whole t {fault = None} (Ok x) rows notes more none h g fails same
   rows_failed = h.came.rows_failed;
   notes_failed = fails ∙ h.came.notes_failed;
 })
-note_given k l whole t {fault = None} (Err f) rows notes more none h g fails same = came_on _ t (Some f) rows more refl same h (record {
-  rows_came = front k whole rows h.came.rows_came;
-  notes_came = UpTo-within l t notes more h.came.notes_came refl g;
-  cause = rw fails.0 (rw h.came.notes_failed at fails.1);
-})
+note_given k l whole t {fault = None} (Err f) rows notes more none h g fails same = grind arith
 
 -- what a call over the two sinks did
 pub record Done {R N K L E : Type 0} (rs : Seen R LaidRow K) (ns : Seen N Message L) (a a' b b' : GName) (r r' : R) (n n' : N) (res : Result (Unit {0}) Fault)
@@ -76,24 +63,8 @@ left_done : {R N K L E : Type 0} {rs : Seen R LaidRow K} {ns : Seen N Message L}
     → Left rs ns (record { rows_name = a; notes_name = b; rows = r; notes = n; rows_loans = rs.loans r; notes_loans = ns.loans n; all_rows = given.rows; all_notes = given.notes })
     a' b' r' n' fault [] []
     → Done rs ns a a' b b' r r' n n' res given
-left_done (Ok x) given e h =
-    let c = (rw e at h).came in record {
-      rows_loan = h.rows_loan;
-      notes_loan = h.notes_loan;
-      rows_same = h.rows_same;
-      notes_same = h.notes_same;
-      gets = record { rows = UpTo-all c.rows_came; notes = UpTo-all c.notes_came };
-      faults = (c.rows_failed, c.notes_failed);
-    }
-left_done (Err f) given e h =
-    let c = (rw e at h).came in record {
-      rows_loan = h.rows_loan;
-      notes_loan = h.notes_loan;
-      rows_same = h.rows_same;
-      notes_same = h.notes_same;
-      gets = record { rows = c.rows_came; notes = c.notes_came };
-      faults = c.cause;
-    }
+left_done (Ok x) given e h = grind (arith, common_steps)
+left_done (Err f) given e h = grind arith
 
 -- a whole call: it begins with no fault, and ends with what the latch says
 pub latched : {R N K L E : Type 0} (rs : Seen R LaidRow K) (ns : Seen N Message L) → IsSink rs.gave rs.within → IsSink ns.gave ns.within

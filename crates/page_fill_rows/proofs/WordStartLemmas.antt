@@ -1,5 +1,5 @@
 -- Where the letters after the last blank begin.
-use Rattle.std.proofs.Common.{◌≡◌, ℕ, ◌+◌, ◌-◌, ◌<◌, ◌≤◌, true, false, ◌==◌, List, [], ◌∷◌, ◌++◌, length, get_or, replicate, take, refl, ap, ◌∙◌, arith}
+use Rattle.std.proofs.Common.{◌≡◌, ℕ, ◌+◌, ◌-◌, ◌<◌, ◌≤◌, true, false, ◌==◌, List, [], ◌∷◌, ◌++◌, length, get_or, replicate, take, refl, arith}
 use Rattle.std.proofs.lemmas.Bool.Decides.{nat_tests}
 use Rattle.std.proofs.lemmas.List.{length-append, length-replicate, length-take-le, take_more}
 use Rattle.page_core_base.specs.declared.cells.Cell.{Cell}
@@ -16,10 +16,7 @@ use Rattle.page_fill_cells.proofs.PlaceLemmas.{in-length}
 pub start-append : (front back : List ℕ) → (word_start back == 0) ≡ false → word_start (front ++ back) ≡ length front + word_start back
 unfolding word_start
 start-append [] back some = omega arith
-start-append (b ∷ front) back some =
-    let others = start-append front back some in
-    let more : (length front + word_start back == 0) ≡ false = grind (arith, nat_tests, some) in
-    rw (others, more) (omega arith)
+start-append (b ∷ front) back some = grind (arith, start-append front back some)
 
 pub start-none : (front back : List ℕ) → word_start back ≡ 0 → word_start (front ++ back) ≡ word_start front
 unfolding word_start
@@ -28,9 +25,7 @@ start-none (b ∷ front) back none = rw (start-none front back none) refl
 
 -- the bytes up to a place end with a byte
 last-byte : (bytes : List ℕ) (end : ℕ) → 0 < end → end ≤ length bytes → take end bytes ≡ take (end - 1) bytes ++ get_or bytes (end - 1) 0 ∷ []
-last-byte bytes end some within =
-    let is : end ≡ end - 1 + 1 = omega (arith, some) in
-    ap (λ n. take n bytes) is ∙ take_more bytes (end - 1) 0 (omega (arith, some, within))
+last-byte bytes end some within = grind (arith, take_more)
 
 blank-last : (b : ℕ) → b ≡ 32 → word_start (b ∷ []) ≡ 1
 unfolding word_start
@@ -42,18 +37,12 @@ letter-last b other = rw other refl
 
 -- a blank is before a place
 pub start-at-blank : (bytes : List ℕ) (end : ℕ) → 0 < end → end ≤ length bytes → get_or bytes (end - 1) 0 ≡ 32 → word_start (take end bytes) ≡ end
-start-at-blank bytes end some within is =
-    let one = blank-last (get_or bytes (end - 1) 0) is in
-    let len : length (take (end - 1) bytes) ≡ end - 1 = length-take-le (end - 1) bytes (omega (arith, within)) in
-    rw (last-byte bytes end some within)
-    (start-append (take (end - 1) bytes) (get_or bytes (end - 1) 0 ∷ []) (grind (arith, nat_tests, one)) ∙ omega (arith, one, len, some))
+start-at-blank bytes end some within is = grind (arith, blank-last, length-take-le, last-byte, start-append)
 
 -- a letter is before a place
 pub start-at-letter : (bytes : List ℕ) (end : ℕ) → 0 < end → end ≤ length bytes → (get_or bytes (end - 1) 0 == 32) ≡ false
     → word_start (take end bytes) ≡ word_start (take (end - 1) bytes)
-start-at-letter bytes end some within other =
-    rw (last-byte bytes end some within)
-    (start-none (take (end - 1) bytes) (get_or bytes (end - 1) 0 ∷ []) (letter-last (get_or bytes (end - 1) 0) other))
+start-at-letter bytes end some within other = grind (arith, last-byte, start-none, letter-last)
 
 pub start-within : (bytes : List ℕ) → word_start bytes ≤ length bytes
 unfolding word_start
@@ -76,13 +65,4 @@ sound-words cells blanks text fonts start count gap word tag gap-now tag-now sou
     let some = length-replicate blanks blank in
     let more = sound-cells (cells ++ replicate blanks blank) (cells_in text fonts) (count + blanks) (length cells) (length cells + blanks) tag-now tag-now spaced (in-plain text fonts plain)
     (omega (arith, front, some, size, room)) tagged in
-    let len = length-append (cells ++ replicate blanks blank) (cells_in text fonts) in
-    record {
-      bounded = more.bounded;
-      counted = let counted = more.counted in omega (arith, counted, size);
-      narrow = let narrow = more.narrow in omega (arith, narrow, size);
-      gap_within = gapped;
-      word_within = omega (arith, len, front, some, size, within);
-      tag_within = tagged;
-      blanks_within = more.blanks_within;
-    }
+    grind (arith, length-append)

@@ -1,5 +1,5 @@
 -- A plain word before which the open row ends.
-use Rattle.std.proofs.Common.{◌≡◌, ℕ, suc, ◌+◌, ◌<◌, ◌≤◌, true, false, ◌==◌, List, [], ◌∷◌, ◌++◌, length, min, take, drop, append_assoc, length-append, refl, ap, ◌∙◌, arith, inl, inr}
+use Rattle.std.proofs.Common.{◌≡◌, ℕ, suc, ◌+◌, ◌<◌, ◌≤◌, true, false, ◌==◌, List, [], ◌∷◌, ◌++◌, length, min, append_assoc, length-append, refl, ap, ◌∙◌, arith, inl, inr}
 use Rattle.std.proofs.Math.Seq.{take-append_seam, take-length, drop-append-add}
 use Rattle.std.proofs.lemmas.Bool.{cases_Bool}
 use Rattle.std.proofs.lemmas.Bool.Decides.{nat_tests}
@@ -47,10 +47,7 @@ letter-stays s cell place p full some = rw (p, full, some) refl
 letter-wraps : (s : Sheet) (base done : List Cell) (cell : Cell) (place : Place) → s.cells ≡ base ++ blank ∷ done → s.gap ≡ length base
     → s.word ≡ length base + 1 → cell_columns cell ≡ 1 → passes (counted s cell) cell ≡ true
     → letter s cell place ≡ wrapped s base (done ++ cell ∷ []) 1
-letter-wraps s base done cell place is gap word one p =
-    let front : take s.gap s.cells ≡ base = rw (is, gap) (take-append_seam base (blank ∷ done)) in
-    let back : drop s.word s.cells ≡ done = rw (is, word) (drop-append-add base (blank ∷ done) 1) in
-    letter-passes s cell place p ∙ rw (front, back, one) refl
+letter-wraps s base done cell place is gap word one p = grind (arith, take-append_seam, drop-append-add, letter-passes)
 
 -- ---- the cells after it
 
@@ -61,12 +58,7 @@ others-fit : (s : Sheet) (base done : List Cell) (cell next : Cell) (cells : Lis
     → length done + 1 + length (next ∷ cells) ≤ CELLS → are_plain (next ∷ cells) ≡ true
     → letters (wrapped s base (done ++ cell ∷ []) 1).edge (next ∷ cells) place
     ≡ nothing (wrapped s base (done ++ cell ∷ next ∷ cells) (suc (length (next ∷ cells)))).edge
-others-fit s base done cell next cells place room plain =
-    let w = (wrapped s base (done ++ cell ∷ []) 1).edge in
-    let len : length (done ++ cell ∷ []) ≡ length done + 1 = length-append done (cell ∷ []) in
-    let within : length w.cells + length (next ∷ cells) ≤ CELLS = omega (arith, len, room) in
-    cells-fit w next cells place plain (room-after w (length (next ∷ cells)) refl within)
-    ∙ rw (has-more done cell, counts-more s.tag_columns (length cells), append_assoc done (cell ∷ []) (next ∷ cells)) refl
+others-fit s base done cell next cells place room plain = grind (arith, length-append, cells-fit, room-after, has-more, counts-more, append_assoc)
 
 -- ---- a word
 
@@ -78,9 +70,7 @@ cells-more : (s : Sheet) (base done : List Cell) (cell : Cell) → s.cells ≡ b
 cells-more s base done cell is = rw is (append_assoc base (blank ∷ done) (cell ∷ []))
 
 columns-more : (s : Sheet) (cell : Cell) → cell_columns cell ≡ 1 → columns (s.cells ++ cell ∷ []) ≡ columns s.cells + 1
-columns-more s cell one =
-    let last : columns (cell ∷ []) ≡ 1 = omega (arith, one) in
-    sum_by-append cell_columns s.cells (cell ∷ []) ∙ ap (λ k. columns s.cells + k) last
+columns-more s cell one = grind (arith, sum_by-append)
 
 letters-more : (s : Sheet) (cell : Cell) (cells : List Cell) (place : Place)
     → letters s (cell ∷ cells) place ≡ join (letter s cell place) (letters (letter s cell place).edge cells place)
@@ -95,10 +85,7 @@ letters-wrap : (s : Sheet) (base done : List Cell) (cell : Cell) (cells : List C
     → letters s (cell ∷ cells) place ≡ wrapped s base (done ++ cell ∷ cells) (length (cell ∷ cells))
 letters-wrap s base done cell [] place is gap word literal some room wide plain =
     let one = first-column cell [] plain in
-    elim (cases_Bool (passes (counted s cell) cell)) [
-      | inl p ↦ letters-one s cell place ∙ letter-wraps s base done cell place is gap word one p
-      | inr p ↦ absurd (never-stays s cell literal (omega (arith, gap, some)) one wide p)
-    ]
+    grind (arith, letters-one, letter-wraps, never-stays)
 letters-wrap s base done cell (next ∷ cells) place is gap word literal some room wide plain =
     let one = first-column cell (next ∷ cells) plain in
     let others = others-plain cell (next ∷ cells) plain in

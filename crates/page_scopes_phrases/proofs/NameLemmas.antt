@@ -1,6 +1,5 @@
 -- The name of the manual, token by token.
-use Rattle.std.proofs.Common.{◌≡◌, ℕ, zero, suc, ◌+◌, ◌<◌, ◌≤◌, Bool, true, false, ◌||◌, ◌&&◌, if◌then◌else◌, List, [], ◌∷◌, ◌++◌, append_assoc, length, map, take, drop, get_or, add-one, inl, inr, refl, sym, ap, ◌∙◌, arith}
-use Rattle.std.specs.List.{prefix_len}
+use Rattle.std.proofs.Common.{◌≡◌, ℕ, zero, suc, ◌+◌, ◌<◌, ◌≤◌, Bool, true, false, ◌||◌, if◌then◌else◌, List, [], ◌∷◌, ◌++◌, append_assoc, length, map, take, drop, get_or, inl, inr, refl, sym, ap, ◌∙◌, arith}
 use Rattle.std.proofs.lemmas.Bool.{cases_Bool}
 use Rattle.std.proofs.lemmas.List.{drop_all}
 use Rattle.std.proofs.Math.Seq.{drop-cons}
@@ -8,14 +7,14 @@ use Rattle.page_core_base.specs.declared.cells.Font.{Font}
 use Rattle.page_core_base.specs.declared.places.Place.{Place}
 use Rattle.page_core_base.specs.Rows.{Item}
 use Rattle.page_core_escapes.specs.Meanings as meanings
-use Rattle.page_core_escapes.specs.Meanings.{Meaning, escape_of}
-use Rattle.page_core_escapes.specs.Tokens.{TextToken, white, plain, quotes, escaped, begins_escape, begins_quote, begins_white, is_white, prints_itself, token_at, token_bytes, token_len, tokens_len, tokens_of}
+use Rattle.page_core_escapes.specs.Meanings.{Meaning}
+use Rattle.page_core_escapes.specs.Tokens.{TextToken, white, plain, quotes, escaped, token_at, token_bytes, token_len, tokens_len, tokens_of}
 use Rattle.page_core_escapes.specs.laws.Views.{begins_word}
 use Rattle.page_core_escapes.proofs.TokenLemmas.{len_within, tokens_more, tokens_none}
 use Rattle.page_scopes_words.specs.declared.fonts.Fonts.{Fonts}
 use Rattle.page_scopes_words.specs.declared.settings.Setting.{Setting}
 use Rattle.page_scopes_words.specs.Fonts.{fonts_after}
-use Rattle.page_scopes_words.specs.Words.{blank_count, blank_text}
+use Rattle.page_scopes_words.specs.Words.{blank_text}
 use Rattle.page_scopes_words.proofs.BlankCountLemmas.{count-within}
 use Rattle.page_scopes_text.proofs.PartedLemmas.{white_front, white_some, word_some}
 use Rattle.page_scopes_phrases.specs.Names.{part_items}
@@ -31,19 +30,10 @@ pub record IsBlank (token : TextToken) (count : ℕ) : Type 0 where
   pub fonts : (fonts : Setting Fonts) → fonts_after token fonts ≡ fonts
 
 none-set : (fonts : Setting Fonts) → record { value = fonts.value; is_set = fonts.is_set || false } ≡ fonts
-none-set fonts =
-    let same : (fonts.is_set || false) ≡ fonts.is_set = elim (cases_Bool fonts.is_set) [ inl t ↦ rw t refl | inr f ↦ rw f refl ] in
-    let with_set : Bool → Setting Fonts = λ b. record { value = fonts.value; is_set = b } in
-    ap with_set same
+none-set fonts = grind arith
 
 escape-blank : (bytes : List ℕ) (meaning : Meaning) (count : ℕ) → meaning_known meaning ≡ Blanks count → IsBlank (escaped bytes meaning) count
-escape-blank bytes (meanings.blanks expression) count is =
-    let same : blank_count expression ≡ count = cc in
-    record {
-      within = rw (← same) (count-within expression);
-      items = λ literal gap place font. ap (λ n. blank_text n font place) same;
-      fonts = none-set;
-    }
+escape-blank bytes (meanings.blanks expression) count is = grind (arith, count-within, none-set)
 escape-blank bytes _ count is = cc
 
 pub token-blank : (token : TextToken) (count : ℕ) → token_known token ≡ Blanks count → IsBlank token count
@@ -92,25 +82,16 @@ either-own false s t text h k = k
 -- its bytes are a front of the text
 token-own : (text : List ℕ) → token_bytes (token_at false text) ≡ take (token_len false text) text
 unfolding token_at
-token-own text =
-    either-own (begins_white text) _ _ text (take-own (prefix_len is_white text) text)
-    (either-own (begins_escape text) _ _ text (take-own (escape_of false text).1 text)
-    (either-own (false && begins_quote text) (quotes (take 2 text)) (plain (take (prefix_len (prints_itself false) text) text)) text (take-own 2 text)
-    (take-own (prefix_len (prints_itself false) text) text)))
+token-own text = grind (arith, either-own, take-own)
 
 pub front-written : (text : List ℕ) (part : NamePart) → part ≡ part_of (token_at false text)
     → (part.known ≡ White → white (take part.len text) ≡ token_at false text) × (part.known ≡ Plain → plain (take part.len text) ≡ token_at false text)
-front-written text part known =
-    let token = token_at false text in
-    let own : take part.len text ≡ token_bytes token = ap (λ (p : NamePart). take p.len text) known ∙ sym (token-own text) in
-    let same : token_known token ≡ part.known = ap (λ (p : NamePart). p.known) (sym known) in
-    ((λ is. ap white own ∙ (token-written token).0 (same ∙ is)), (λ is. ap plain own ∙ (token-written token).1 (same ∙ is)))
+front-written text part known = grind (arith, token-own, token-written)
 
 -- ---- items that wait, those of a token, and the others
 
 pub regroup : (waiting token others rest : List Item) → (waiting ++ (token ++ others)) ++ rest ≡ (waiting ++ token) ++ (others ++ rest)
-regroup waiting token others rest =
-    rw (append_assoc waiting (token ++ others) rest, append_assoc token others rest, append_assoc waiting token (others ++ rest)) refl
+regroup waiting token others rest = grind (arith, append_assoc)
 
 -- ---- the first token of a text
 
@@ -118,9 +99,7 @@ token-some : (text : List ℕ) → 0 < length text → 0 < token_len false text
 token-some text some = elim (cases_Bool (begins_word text)) [ inl t ↦ word_some false text t | inr f ↦ white_some false text (white_front text some f) ]
 
 text-some : (text : List ℕ) (part : NamePart) (parts : List NamePart) → part ∷ parts ≡ parts_of text → 0 < length text
-text-some [] part parts is =
-    let none = is ∙ ap (map part_of) (tokens_none false [] (omega arith)) in
-    cc
+text-some [] part parts is = grind (arith, tokens_none)
 text-some (b ∷ bytes) part parts is = omega arith
 
 pub record IsFirst (text : List ℕ) (part : NamePart) (parts : List NamePart) : Type 0 where
@@ -150,9 +129,7 @@ first-part text part parts is =
 
 pub next-part : (text : List ℕ) (parts : List NamePart) (k : ℕ) (d : NamePart) → k < length parts → drop k parts ≡ parts_of text
     → IsFirst text (get_or parts k d) (drop (k + 1) parts)
-next-part text parts k d within known =
-    let next : drop k parts ≡ get_or parts k d ∷ drop (k + 1) parts = rw (add-one, drop-cons parts k d within) refl in
-    first-part text (get_or parts k d) (drop (k + 1) parts) (sym next ∙ known)
+next-part text parts k d within known = grind (arith, drop-cons, first-part)
 
 none-of : (tokens : List TextToken) → [] ≡ map part_of tokens → tokens ≡ []
 none-of [] is = refl

@@ -1,12 +1,12 @@
 -- Words and blanks of a row that is kept as it is: pieces whose cells they are.
-use Rattle.std.proofs.Common.{◌≡◌, ℕ, ◌+◌, ◌-◌, ◌<◌, ◌==◌, nat_lt, not, Bool, true, false, List, [], ◌∷◌, ◌++◌, length, take, drop, map, append-nil, append_assoc, length-append, refl, sym, ap, ◌∙◌, arith, inl, inr}
+use Rattle.std.proofs.Common.{◌≡◌, ℕ, ◌+◌, ◌-◌, ◌<◌, ◌==◌, nat_lt, not, Bool, true, false, List, [], ◌∷◌, ◌++◌, length, take, drop, map, append-nil, append_assoc, length-append, refl, sym, ap, ◌∙◌, arith}
 use Rattle.std.specs.List.{list_all, prefix_len}
 use Rattle.std.proofs.Math.Bool.{or-false, or-true}
 use Rattle.std.proofs.Math.Seq.{take-append_seam}
 use Rattle.std.proofs.lemmas.List.{map-append, take-append-drop}
 use Rattle.std.proofs.lemmas.List.Folds.{length-prefix_len, list_all-append}
-use Rattle.std.proofs.lemmas.Bool.{cases_Bool}
 use Rattle.std.proofs.lemmas.Bool.Decides.{nat_tests}
+use Rattle.std.proofs.lemmas.Grind.{common_steps}
 use Rattle.page_core_base.specs.Rows.{Item, shown, hyphen, later_pieces, part_pieces, parts_of}
 use Rattle.page_core_base.specs.declared.cells.Cell.{Cell}
 use Rattle.page_core_base.specs.declared.cells.Font.TheVariants.{R}
@@ -17,7 +17,7 @@ use Rattle.page_core_base.specs.laws.Views.{font_cells, is_kept, is_word, letter
 use Rattle.page_core_base.proofs.WordPartLemmas.{joined, joined-parts, parts-full}
 use Rattle.page_core_escapes.specs.Tokens.{begins_white, is_white, plain, token_len}
 use Rattle.page_core_escapes.specs.laws.Views.{begins_word}
-use Rattle.page_scopes_words.specs.Words.{body_after, gap_after, white_after, word_after, at, has_tab, white_cells}
+use Rattle.page_scopes_words.specs.Words.{body_after, white_after, word_after, at, has_tab, white_cells}
 use Rattle.page_scopes_words.specs.declared.pens.Pen.{Pen}
 use Rattle.page_scopes_words.specs.declared.pens.TextStyle.{TextStyle}
 use Rattle.page_scopes_text.proofs.PartedLemmas.{all_before, no_word, white_token}
@@ -28,10 +28,7 @@ use Rattle.page_scopes_text.specs.machine.Kept.{AreCells, IsKept, ReadsKept, kep
 use Rattle.page_scopes_text.specs.machine.Reads.{ReadsPlain}
 
 plain_begins : (quoted : Bool) (text word rest : List ℕ) → ReadsPlain quoted text word rest → begins_word text ≡ true
-plain_begins quoted text word rest r = elim (cases_Bool (begins_word text)) [ inl t ↦ t | inr f ↦ absurd (never (sym (no_word quoted text f) ∙ r.only)) ]
-  where
-    never : [] ≡ plain word ∷ [] → ⊥
-    never e = cc
+plain_begins quoted text word rest r = grind (arith, begins_word, no_word)
 
 -- ---- blanks
 
@@ -78,17 +75,11 @@ later_kept place (part ∷ parts) all =
 
 later_letters : (place : Place) (parts : List (List ℕ)) → word_letters (later_pieces R place parts) ≡ font_cells R (joined parts)
 later_letters place [] = refl
-later_letters place (part ∷ parts) =
-    ap (λ (cells : List Cell). font_cells R part ++ cells) (later_letters place parts) ∙ sym (map-append (λ c. record { c = c; font = R }) part (joined parts))
+later_letters place (part ∷ parts) = grind (arith, font_cells, map-append, joined, later_letters place parts)
 
 parts_are : (place : Place) (parts : List (List ℕ)) → full parts ≡ true → AreCells (joined parts) (part_pieces R place parts)
 parts_are place [] all = (refl, refl)
-parts_are place (part ∷ parts) all =
-    let own : nat_lt 0 (length part) ≡ true = grind (arith, nat_tests, all) in
-    let others : full parts ≡ true = grind (arith, all) in (
-      rw own (later_kept place parts others),
-      map-append (λ c. record { c = c; font = R }) part (joined parts) ∙ ap (λ (cells : List Cell). font_cells R part ++ cells) (sym (later_letters place parts)),
-    )
+parts_are place (part ∷ parts) all = grind (arith, later_kept, map-append, joined, font_cells, later_letters)
 
 abbrev word_pieces : Bool → Place → List ℕ → List (Piece (List ℕ))
 word_pieces true place word = part_pieces R place (parts_of word)
@@ -96,9 +87,7 @@ word_pieces false place word = Text word R place ∷ []
 
 word_are : (splits : Bool) (place : Place) (word : List ℕ) → is_word word ≡ true → AreCells word (word_pieces splits place word)
 word_are true place word is = rw (joined-parts word) at (parts_are place (parts_of word) (parts-full hyphen word))
-word_are false place word is =
-    let some : nat_lt 0 (length word) ≡ true = grind (arith, is) in
-    (rw some refl, sym (append-nil (font_cells R word)))
+word_are false place word is = grind (arith, append-nil, font_cells)
 
 word_printed : (quoted splits : Bool) (place : Place) (word : List ℕ) → printed_items quoted splits R place (plain word) ≡ map shown (word_pieces splits place word)
 word_printed quoted true place word = refl
@@ -107,12 +96,7 @@ word_printed quoted false place word = refl
 -- in a row that is kept no other blanks are before a word after white space
 kept_word : (style : TextStyle) (line : ℕ) (tab : Bool) (pen : Pen) (word : List ℕ) → style.is_literal ≡ true → pen.gap ≡ 0 → pen.fonts.value.font ≡ R
     → word_items style line tab pen (plain word ∷ []) ≡ map shown (word_pieces pen.splits (at line pen.column) word)
-kept_word style line tab pen word literal none roman =
-    let printed = word_printed style.is_quoted pen.splits (at line pen.column) word in
-    elim (cases_Bool pen.is_after_word) [
-      | inl after ↦ rw (literal, none, roman, after, append-nil (printed_items style.is_quoted pen.splits R (at line pen.column) (plain word)), append-nil (printed_items style.is_quoted pen.splits R (at line pen.column) (plain word))) printed
-      | inr before ↦ rw (literal, none, roman, before, append-nil (printed_items style.is_quoted pen.splits R (at line pen.column) (plain word)), append-nil (printed_items style.is_quoted pen.splits R (at line pen.column) (plain word))) printed
-    ]
+kept_word style line tab pen word literal none roman = grind (arith, word_printed, append-nil)
 
 -- ---- the pen
 
@@ -129,11 +113,7 @@ kept_some pen (b ∷ bytes) some = refl
 kept_both : (pen : Pen) (front back : List ℕ) → kept_pen (kept_pen pen front) back ≡ kept_pen pen (front ++ back)
 kept_both pen [] back = refl
 kept_both pen (x ∷ front) [] = rw (append-nil front) refl
-kept_both pen (x ∷ front) (y ∷ back) =
-    let len : (pen.column + length (x ∷ front)) + length (y ∷ back) ≡ pen.column + length (x ∷ (front ++ y ∷ back)) = omega (arith, length-append front (y ∷ back)) in
-    ap (λ (p : Pen). body_after p (plain (y ∷ back) ∷ [])) (body_plain pen (x ∷ front))
-    ∙ (body_plain (pen_plain pen (x ∷ front)) (y ∷ back) ∙ (ap (λ (n : ℕ). record pen { column = n; gap = 1; is_after_word = true; has_cell = true; is_cut = false; ends_blank = false }) len
-    ∙ sym (body_plain pen (x ∷ (front ++ y ∷ back)))))
+kept_both pen (x ∷ front) (y ∷ back) = grind (arith, length-append, body_plain)
 
 kept_still : (style : TextStyle) (pen : Pen) (front : List ℕ) → IsKept style pen → IsKept style (kept_pen pen front)
 kept_still style pen [] is = is
@@ -142,11 +122,7 @@ kept_still style pen (b ∷ front) is = record { literal = is.literal; roman = i
 -- white space, and a word after it
 kept_spaced : (style : TextStyle) (pen : Pen) (white word : List ℕ) → 0 < length white → style.is_literal ≡ true
     → word_after style (white_after style pen white) (plain word ∷ []) ≡ kept_pen pen (white ++ word)
-kept_spaced style pen white word some literal =
-    let len : (pen.column + length white) + length word ≡ pen.column + length (white ++ word) = omega (arith, length-append white word) in
-    body_plain (gap_after style (white_after style pen white)) word
-    ∙ (ap (λ (n : ℕ). record pen { column = n; gap = 1; is_after_word = true; has_cell = true; is_cut = false; ends_blank = false }) len
-    ∙ (sym (body_plain pen (white ++ word)) ∙ sym (kept_some pen (white ++ word) (omega (arith, some, length-append white word)))))
+kept_spaced style pen white word some literal = grind (arith, length-append, body_plain, kept_some)
 
 -- ---- white space at a text's front, and the word after it
 
@@ -172,15 +148,11 @@ spaced_kept style line last pen text white after word rest n s literal roman =
     let pen_white = white_after style pen white in
     let gap : pen_white.gap ≡ 0 = rw literal refl in
     let printed = kept_word style line (has_tab white) pen_white word literal gap roman in
-    parts ∙ (rw (s.plain_word.only, printed, literal, white_pieces (place_after line pen white) white s.no_tab)
-    (sym (map-append shown (blank_pieces (place_after line pen white) white) (word_pieces pen.splits (at line (pen.column + length white)) word))))
+    grind (arith, white_pieces, map-append)
 
 after_kept : (style : TextStyle) (pen : Pen) (text white after word rest : List ℕ) (n : ℕ) → Spaces style.is_quoted text white after word rest n
     → style.is_literal ≡ true → spaced_after style pen (spaced_front style.is_quoted text) ≡ kept_pen pen (white ++ word)
-after_kept style pen text white after word rest n s literal =
-    let word_first = plain_begins style.is_quoted after word rest s.plain_word in
-    (spaced_word style 0 0 pen text white after n s.len s.front s.back word_first).1
-    ∙ (rw s.plain_word.only (kept_spaced style pen white word s.some literal))
+after_kept style pen text white after word rest n s literal = grind (arith, plain_begins, spaced_word, kept_spaced)
 
 rest_others : (quoted : Bool) (text white after word rest : List ℕ) (n : ℕ) → Spaces quoted text white after word rest n
     → (words_of quoted (drop (token_len quoted text) text)).others ≡ (words_of quoted rest).others
@@ -251,18 +223,12 @@ reads_more style text middle rest a b = record {
 
 -- what was read is at the front
 pub front_of : (style : TextStyle) (text rest : List ℕ) (r : ReadsKept style text rest) → take (length text - length rest) text ≡ r.front
-front_of style text rest r =
-    let len : length text ≡ length r.front + length rest = ap (λ (bytes : List ℕ). length bytes) r.whole ∙ length-append r.front rest in
-    let n : length text - length rest ≡ length r.front = omega (arith, len) in
-    rw n (ap (take (length r.front)) r.whole ∙ take-append_seam r.front rest)
+front_of style text rest r = grind (arith, common_steps, length-append, take-append_seam)
 
 -- ---- what the code reads
 
 pub white_all : (quoted : Bool) (text : List ℕ) (n : ℕ) → begins_white text ≡ true → n ≡ token_len quoted text → list_all is_white (take n text) ≡ true
-white_all quoted [] n begins len = absurd (never begins)
-  where
-    never : false ≡ true → ⊥
-    never e = grind (arith, e)
+white_all quoted [] n begins len = grind arith
 white_all quoted (b ∷ bytes) n begins len =
     let token = white_token quoted b bytes begins in
     let is : token_len quoted (b ∷ bytes) ≡ prefix_len is_white (b ∷ bytes) = rw token (length-prefix_len is_white (b ∷ bytes)) in

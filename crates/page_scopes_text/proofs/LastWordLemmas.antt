@@ -1,5 +1,5 @@
 -- The last word of a text, part by part.
-use Rattle.std.proofs.Common.{◌≡◌, ℕ, ◌+◌, ◌-◌, ◌<◌, ◌≤◌, ◌&&◌, Bool, true, false, not, List, [], ◌∷◌, length, take, drop, refl, ap, ap₂, sym, ◌∙◌, inl, inr, arith}
+use Rattle.std.proofs.Common.{◌≡◌, ℕ, ◌+◌, ◌-◌, ◌≤◌, ◌&&◌, Bool, true, false, not, List, [], ◌∷◌, length, drop, refl, ap, ap₂, ◌∙◌, inl, inr, arith}
 use Rattle.std.specs.Prelude.{◌==◌, if◌then◌else◌}
 use Rattle.std.proofs.lemmas.Bool.{cases_Bool}
 use Rattle.std.proofs.lemmas.List.{length-drop, length-take-le}
@@ -22,19 +22,7 @@ passed : (quoted : Bool) (column last size : ℕ) (text rest : List ℕ) (n : �
     → last_of (column + (size - length text)) last (words_of quoted text).others
     ≡ last_of (column + (size - length rest))
     (if length (words_of quoted (drop n text)).word == 0 then last else column + (size - length (drop n text))) (words_of quoted rest).others
-passed quoted column last size text rest n p le =
-    let here = column + (size - length text) in
-    let word = (words_of quoted (drop n text)).word in
-    let parts = (words_of quoted (drop n text)).others in
-    let some : 0 < n = rw p.len (white_some quoted text p.begins) in
-    let white = length-take-le n text p.within in
-    let left = length-drop n text in
-    let after : here + (length (take n text) + tokens_len word) ≡ column + (size - length rest) = omega (arith, white, left, p.word_len, p.within, le) in
-    let first : here + length (take n text) ≡ column + (size - length (drop n text)) = omega (arith, white, left, p.within, le) in
-    ap (λ (t : Parted). last_of here last t.others) (spaced_more quoted text n p.begins some p.len)
-    ∙ ap (λ (k : ℕ). last_of here last (record { white = take k text; word = (words_of quoted (drop k text)).word } ∷ parts)) (sym p.len)
-    ∙ ap₂ (λ (c f : ℕ). last_of c (if length word == 0 then last else f) parts) after first
-    ∙ ap (last_of (column + (size - length rest)) (if length word == 0 then last else column + (size - length (drop n text)))) (sym p.others)
+passed quoted column last size text rest n p le = grind (arith, white_some, length-take-le, length-drop, spaced_more, ap₂)
 
 -- a word is there
 pub passed_word : (quoted : Bool) (column last size : ℕ) (text rest : List ℕ) (n : ℕ) → Passes quoted text rest n → length text ≤ size
@@ -57,8 +45,7 @@ passed_end quoted column last size text rest n p le h =
 front_column : (quoted : Bool) (column last : ℕ) (text : List ℕ)
     → (if length (words_of quoted text).word == 0 && not (length (words_of quoted text).others == 0) then last else column)
     ≡ (if begins_white text then last else column)
-front_column quoted column last [] =
-    ap (λ (t : Parted). if length t.word == 0 && not (length t.others == 0) then last else column) (words_none quoted [] (omega arith))
+front_column quoted column last [] = grind (arith, words_none)
 front_column quoted column last (b ∷ bs) = elim (cases_Bool (is_white b)) [
   | inl t ↦
       let front = spaced_more quoted (b ∷ bs) (token_len quoted (b ∷ bs)) t (white_some quoted (b ∷ bs) t) refl in
@@ -71,6 +58,4 @@ pub front_passed : (quoted : Bool) (column last : ℕ) (text rest : List ℕ) �
     → (words_of quoted rest).others ≡ (words_of quoted text).others
     → last_word column last (words_of quoted text)
     ≡ last_of (column + (length text - length rest)) (if begins_white text then last else column) (words_of quoted rest).others
-front_passed quoted column last text rest len others =
-    let columns : column + tokens_len (words_of quoted text).word ≡ column + (length text - length rest) = omega (arith, len) in
-    rw (columns, front_column quoted column last text, others) refl
+front_passed quoted column last text rest len others = grind (arith, front_column)

@@ -16,8 +16,7 @@ use Rattle.page_core_escapes.specs.Meanings as meanings
 use Rattle.page_core_escapes.specs.Meanings.{Face, is_known}
 use Rattle.page_core_escapes.specs.Tokens.{TextToken, escaped, is_white, plain, prints_itself, quotes, token_at, token_bytes, token_len}
 use Rattle.page_core_escapes.specs.laws.Views.{begins_word}
-use Rattle.page_core_base.specs.declared.places.Place.{Place}
-use Rattle.page_scopes_words.specs.Words.{face_notes, is_glue, token_prints, pen_after, pen_through}
+use Rattle.page_scopes_words.specs.Words.{is_glue, token_prints, pen_after, pen_through}
 use Rattle.page_scopes_words.specs.declared.settings.Setting.{Setting}
 use Rattle.page_scopes_words.specs.declared.fonts.Fonts.{Fonts}
 use Rattle.page_scopes_text.proofs.PartedLemmas.{others_same, pen_more, plain_word, tokens_more, words_more}
@@ -54,30 +53,13 @@ char_lettered bytes c h = record {
   items = λ quoted font place. (Char c font place ∷ [], refl, rw h refl, refl);
 }
 
--- a font that there is has no message
-known_notes : (quoted : Bool) (place : Place) (font : Face) → is_known font ≡ true → face_notes quoted place font ≡ []
-known_notes quoted place (meanings.unknown name) h = absurd (never h)
-  where
-    never : false ≡ true → ⊥
-    never e = grind (arith, e)
-known_notes quoted place _ h = refl
-
 pub font_lettered : (bytes : List ℕ) (font : Face) → is_known font ≡ true → Lettered (escaped bytes (meanings.face font)) []
-font_lettered bytes font h = record {
-  notes = λ quoted place. known_notes quoted place font h;
-  glues = refl;
-  prints = refl;
-  items = λ quoted f place. ([], refl, refl, refl);
-}
+font_lettered bytes font h = grind arith
 
 -- the bytes of a token that print themselves are a word
 pub plain_letters : (quoted : Bool) (text bytes : List ℕ) → token_at quoted text ≡ plain bytes → 0 < length bytes → is_word bytes ≡ true
 unfolding token_at
-plain_letters quoted [] bytes e some =
-    elim (cases_Bool quoted) [
-      | inl q ↦ absurd (omega (arith, some, ap (λ (t : TextToken). length (token_bytes t)) (rw q at e)))
-      | inr q ↦ absurd (omega (arith, some, ap (λ (t : TextToken). length (token_bytes t)) (rw q at e)))
-    ]
+plain_letters quoted [] bytes e some = grind arith
 plain_letters quoted (b ∷ bs) bytes e some =
     elim (cases_Bool (is_white b)) [
       | inl t ↦ let is = rw t at e in let no : ⊥ = cc in absurd no
@@ -102,13 +84,7 @@ plain_letters quoted (b ∷ bs) bytes e some =
 -- ---- some tokens, and one more
 
 pub letters_none : (quoted : Bool) (fonts : Setting Fonts) (text : List ℕ) → ReadsLetters quoted fonts text fonts text []
-letters_none quoted fonts text = record {
-  less = omega arith;
-  others = refl;
-  notes = λ place. refl;
-  items = λ place column after e. let same : after ≡ column = omega (arith, e) in ([], refl, refl, rw same refl);
-  pens = λ column after e. let same : after ≡ column = omega (arith, e) in rw same refl;
-}
+letters_none quoted fonts text = grind arith
 
 word_letters-append : (xs ys : List (Piece (List ℕ))) → word_letters (xs ++ ys) ≡ word_letters xs ++ word_letters ys
 word_letters-append [] ys = refl
@@ -119,10 +95,7 @@ some_more m n = grind (arith, nat_tests)
 
 has_more : (font : Font) (cells : List Cell) (bytes : List ℕ) (b : Bool) → b ≡ nat_lt 0 (length bytes)
     → (nat_lt 0 (length cells) || b) ≡ nat_lt 0 (length (cells ++ letters_in font bytes))
-has_more font cells bytes b e =
-    let size : length (cells ++ letters_in font bytes) ≡ length cells + length bytes =
-    length-append cells (letters_in font bytes) ∙ ap (λ (n : ℕ). length cells + n) (length-map bytes (λ (c : ℕ). record { c = c; font = font })) in
-    ap (λ (t : Bool). nat_lt 0 (length cells) || t) e ∙ some_more (length cells) (length bytes) ∙ ap (nat_lt 0) (sym size)
+has_more font cells bytes b e = grind (arith, length-append, length-map, some_more)
 
 inside_after : (fonts : Setting Fonts) (column after : ℕ) (has more : Bool) (token : TextToken) → is_glue token ≡ false → column + length (token_bytes token) ≡ after
     → (has || token_prints token) ≡ more → pen_after (inside fonts column has) token ≡ inside (fonts_after token fonts) after more
@@ -174,10 +147,7 @@ letters_more quoted fonts text mid rest cells bytes n r begins some is within t 
 
 pub one_part_of : (bytes : List ℕ) (n : ℕ) → parts_of bytes ≡ take n bytes ∷ parts_of (drop n bytes) → n ≡ length bytes → parts_of bytes ≡ bytes ∷ []
 unfolding parts_after
-one_part_of bytes n e k =
-    let all : take n bytes ≡ bytes = take_all n bytes (omega (arith, k)) in
-    let none : drop n bytes ≡ [] = drop_all n bytes (omega (arith, k)) in
-    rw (all, none) at e
+one_part_of bytes n e k = grind (arith, take_all, drop_all)
 
 all_three : (p q r : Bool) → ((p && not q) && r) ≡ true → (p ≡ true) × (q ≡ false) × (r ≡ true)
 all_three true false r h = (refl, refl, h)
@@ -189,8 +159,7 @@ plain_bytes : (bytes : List ℕ) → list_all (λ b. is_printable b && not (b ==
 plain_bytes [] h = (refl, refl)
 plain_bytes (b ∷ bytes) h =
     let is = all_three (is_printable b) (b == hyphen) (list_all (λ b. is_printable b && not (b == hyphen)) bytes) h in
-    let more = plain_bytes bytes is.2 in
-    (rw is.0 more.0, rw is.1 more.1)
+    grind (arith, plain_bytes bytes is.2)
 
 -- bytes without a hyphen are one part
 pub plain_part : (bytes : List ℕ) → is_word bytes ≡ true → list_all (λ b. is_printable b && not (b == hyphen)) bytes ≡ true

@@ -1,5 +1,5 @@
 -- Texts that begin with words of letters, after blanks: they give what they would give with one blank at their front, but for the count of the blanks.
-use Rattle.std.proofs.Common.{◌≡◌, ℕ, suc, ◌+◌, ◌-◌, ◌<◌, Bool, true, false, not, ◌||◌, List, [], ◌∷◌, ◌++◌, length, map, take, drop, refl, ap, ap₂, sym, ◌∙◌, append_assoc, arith}
+use Rattle.std.proofs.Common.{◌≡◌, ℕ, suc, ◌+◌, ◌-◌, ◌<◌, Bool, true, false, not, List, [], ◌∷◌, ◌++◌, length, map, take, drop, refl, ap, ap₂, sym, ◌∙◌, append_assoc, arith}
 use Rattle.std.specs.Prelude.{◌==◌, if◌then◌else◌}
 use Rattle.std.specs.List.{list_all, prefix_len}
 use Rattle.std.proofs.lemmas.List.{get_or_past, take_all}
@@ -14,7 +14,7 @@ use Rattle.page_core_base.specs.declared.pieces.Piece.TheVariants.{Blank}
 use Rattle.page_core_base.specs.declared.places.Place.{Place}
 use Rattle.page_core_escapes.specs.Tokens.{TextToken, prints_itself, token_len}
 use Rattle.page_core_escapes.specs.laws.Views.{begins_word}
-use Rattle.page_scopes_words.specs.Words.{at, gap_after, pen_after, pen_through, word_after, word_begun, word_ended}
+use Rattle.page_scopes_words.specs.Words.{at, gap_after, pen_after, pen_through, word_after, word_begun}
 use Rattle.page_scopes_words.specs.declared.fonts.Fonts.{Fonts}
 use Rattle.page_scopes_words.specs.declared.settings.Setting.{Setting}
 use Rattle.page_scopes_words.specs.machine.Letters.{GivesLetters, letters_in}
@@ -24,7 +24,7 @@ use Rattle.page_scopes_text.proofs.LetteredWordLemmas.{reads_after_blank, white_
 use Rattle.page_scopes_text.proofs.PartedLemmas.{blank_len}
 use Rattle.page_scopes_text.proofs.RunWordLemmas.{first_reads, one_word, run_reads}
 use Rattle.page_scopes_text.proofs.TextLemmas.{others_more, spaced_word}
-use Rattle.page_scopes_text.specs.Texts.{Spaced, words_of, others_after, others_items, spaced_items, body_items, empty_items, gap_items, tokens_items, word_items, word_notes}
+use Rattle.page_scopes_text.specs.Texts.{Spaced, words_of, others_after, others_items, spaced_items, empty_items, tokens_items, word_items, word_notes}
 use Rattle.page_scopes_text.specs.laws.Views.{spaced_front}
 use Rattle.page_scopes_words.specs.machine.Pens.{resting}
 use Rattle.page_scopes_words.specs.declared.pens.Pen.{Pen}
@@ -61,14 +61,9 @@ whole_reads style fonts BI text e literal begins one goes = word_whole style fon
 -- after the one blank
 pub front_adds : (style : TextStyle) (fonts next : Setting Fonts) (text rest : List ℕ) (before after : List Cell) → before ≡ letters_in R (32 ∷ [])
     → AddsAfterBlank style fonts before text next after rest → AddsWords style fonts [] (32 ∷ text) next after rest
-front_adds style fonts next text rest before after e adds =
-    (record { c = 32; font = R } ∷ adds.0, adds.1 ∙ ap (λ (c : List Cell). c ++ adds.0) e, adds.2.words)
+front_adds style fonts next text rest before after e adds = grind arith
 
 -- ---- the blank before the text
-
-or_true : (b : Bool) → (b || true) ≡ true
-or_true true = refl
-or_true false = refl
 
 -- what a word prints does not depend on what was before it
 tokens_same : (quoted : Bool) (place : Place) (pen : Pen) (n : ℕ) (a b : Bool) (word : List TextToken)
@@ -86,11 +81,6 @@ abbrev prints_word : Bool → Place → Setting Fonts → ℕ → List TextToken
 prints_word quoted place fonts column word =
     tokens_items quoted place (inside fonts column false) word ++ empty_items (pen_through (inside fonts column false) word).has_cell place
 
--- the pen in the text's first word
-begun_here : (style : TextStyle) (pen : Pen) → GoesOn style pen
-    → word_begun (gap_after style pen) ≡ record (inside pen.fonts pen.column false) { gap = pen.gap; is_after_word = pen.is_after_word; ends_blank = pen.ends_blank }
-begun_here style pen h = rw h.splits refl
-
 -- in the text
 here_gives : (style : TextStyle) (line : ℕ) (pen : Pen) (word : List TextToken) → GoesOn style pen → word_notes style.is_quoted (at line pen.column) word ≡ []
     → word_items style line false pen word ≡ shown (Blank pen.gap false) ∷ prints_word style.is_quoted (at line pen.column) pen.fonts pen.column word
@@ -100,12 +90,7 @@ here_gives style line pen word h notes =
     let some : (pen.gap == 0) ≡ false = let above = h.gap in grind (arith, nat_tests, above) in
     let tokens = tokens_same quoted place (inside pen.fonts pen.column false) pen.gap pen.is_after_word pen.ends_blank word in
     let through = through_same (inside pen.fonts pen.column false) pen.gap pen.is_after_word pen.ends_blank word in
-    let body : body_items quoted place (gap_after style pen) word
-    ≡ tokens_items quoted place (inside pen.fonts pen.column false) word ++ empty_items (pen_through (inside pen.fonts pen.column false) word).has_cell place =
-    ap (λ (p : Pen). tokens_items quoted place p word ++ empty_items (pen_through p word).has_cell place) (begun_here style pen h)
-    ∙ ap₂ (λ (i : List Item) (p : Pen). i ++ empty_items p.has_cell place) tokens through in
-    let gap : gap_items style false place pen ≡ shown (Blank pen.gap false) ∷ [] = rw (h.filled, some) refl in
-    ap₂ (λ (n i : List Item). n ++ i) notes (ap₂ (λ (g b : List Item). g ++ b) gap body)
+    grind arith
 
 -- and after a blank of the text
 there_gives : (style : TextStyle) (line last : ℕ) (fonts : Setting Fonts) (column : ℕ) (text : List ℕ) → style.is_literal ≡ false → begins_word text ≡ true
@@ -114,13 +99,6 @@ there_gives : (style : TextStyle) (line last : ℕ) (fonts : Setting Fonts) (col
     ≡ shown (Blank 1 false) ∷ prints_word style.is_quoted (at line (column + 1)) fonts (column + 1) (words_of style.is_quoted text).word
 there_gives style line last fonts column text literal begins notes =
     (spaced_word style line last (resting fonts column) (32 ∷ text) (32 ∷ []) text 1 (sym (blank_len style.is_quoted text begins)) refl refl begins).0 ∙ rw (literal, notes) refl
-
--- a word that prints something ends so
-abbrev ended : Pen → Pen
-ended pen = record pen { gap = 1; is_after_word = true; has_cell = true; ends_blank = false }
-
-ended_is : (before pen : Pen) (n : ℕ) (a b : Bool) → pen.has_cell ≡ true → word_ended before (record pen { gap = n; is_after_word = a; ends_blank = b }) ≡ ended pen
-ended_is before pen n a b has = rw (has, or_true before.has_cell) refl
 
 -- the pen after it
 here_rests : (style : TextStyle) (pen : Pen) (word : List TextToken) → GoesOn style pen → (pen_through (inside pen.fonts pen.column false) word).has_cell ≡ true
@@ -131,11 +109,7 @@ here_rests style pen word h has =
     let own = inside pen.fonts pen.column false in
     let through = through_same own pen.gap pen.is_after_word pen.ends_blank word in
     let other : word_begun (gap_after style white) ≡ own = rw (h.filled, back) refl in
-    let here : word_after style pen word ≡ ended (pen_through own word) = ap (λ (p : Pen). word_ended (gap_after style pen) (pen_through p word)) (begun_here style pen h)
-    ∙ ap (word_ended (gap_after style pen)) through ∙ ended_is (gap_after style pen) (pen_through own word) pen.gap pen.is_after_word pen.ends_blank has in
-    let there : word_after style white word ≡ ended (pen_through own word) = ap (λ (p : Pen). word_ended (gap_after style white) (pen_through p word)) other
-    ∙ ended_is (gap_after style white) (pen_through own word) (pen_through own word).gap (pen_through own word).is_after_word (pen_through own word).ends_blank has in
-    here ∙ sym there
+    grind arith
 
 -- a text gives what it gives with a blank at its front, but for the count of blanks
 text_same : (style : TextStyle) (line last : ℕ) (pen : Pen) (text : List ℕ) → GoesOn style pen → begins_word text ≡ true → PrintsFirst style.is_quoted pen.fonts text
@@ -150,18 +124,7 @@ text_same style line last pen text h begins prints =
     let rests = (spaced_word style 0 0 (resting pen.fonts c) (32 ∷ text) (32 ∷ []) text 1 (sym one) refl refl begins).1 in
     let quiet = prints.1 (at line pen.column) in
     let there = there_gives style line last pen.fonts c text h.filled begins (rw back quiet) in
-    let others = (words_of quoted text).others in
-    let left : (words_of quoted (drop (token_len quoted (32 ∷ text)) (32 ∷ text))).others ≡ others = ap (λ (n : ℕ). (words_of quoted (drop n (32 ∷ text))).others) one in
-    let here : first_items style line last false pen (words_of quoted text)
-    ≡ shown (Blank pen.gap false) ∷ (prints_word quoted (at line pen.column) pen.fonts pen.column word ++ others_items style line last (word_after style (white_pen style pen.fonts c) word) others) =
-    ap₂ (λ (i : List Item) (p : Pen). i ++ others_items style line last p others) (here_gives style line pen word h quiet) (here_rests style pen word h (prints.0 pen.column)) in
-    let other : others_items style line last (resting pen.fonts c) (words_of quoted (32 ∷ text)).others
-    ≡ shown (Blank 1 false) ∷ (prints_word quoted (at line pen.column) pen.fonts pen.column word ++ others_items style line last (word_after style (white_pen style pen.fonts c) word) others) =
-    (others_more style line last (resting pen.fonts c) (32 ∷ text) refl).0
-    ∙ ap₂ (λ (i : List Item) (p : Pen). i ++ others_items style line last p (words_of quoted (drop (token_len quoted (32 ∷ text)) (32 ∷ text))).others)
-    (there ∙ ap (λ (n : ℕ). shown (Blank 1 false) ∷ prints_word quoted (at line n) pen.fonts n word) back) rests
-    ∙ ap (λ (o : List Spaced). shown (Blank 1 false) ∷ prints_word quoted (at line pen.column) pen.fonts pen.column word ++ others_items style line last (word_after style (white_pen style pen.fonts c) word) o) left in
-    here ∙ sym (ap (λ (items : List Item). shown (Blank pen.gap false) ∷ drop 1 items) other)
+    grind (arith, white_pen, here_gives, here_rests, others_more)
 
 after_same : (style : TextStyle) (pen : Pen) (text : List ℕ) → GoesOn style pen → begins_word text ≡ true → PrintsFirst style.is_quoted pen.fonts text
     → first_after style pen (words_of style.is_quoted text) ≡ others_after style (resting pen.fonts (pen.column - 1)) (words_of style.is_quoted (32 ∷ text)).others
@@ -205,10 +168,7 @@ pub front_pen : {S : Type 0} (gave : S → List Item → S → Type 0) (style : 
     → GoesOn style pen → begins_word text ≡ true → GivesFront style pen text fonts rest gave s t
     → others_after style (resting fonts (pen.column + (length text - length rest))) (words_of style.is_quoted rest).others
     ≡ first_after style pen (words_of style.is_quoted text)
-front_pen gave style pen fonts text rest s t h begins front =
-    let after = pen.column + (length text - length rest) in
-    let e : after + length rest ≡ pen.column - 1 + suc (length text) = omega (arith, front.less, h.column) in
-    front.adds.2.pens (pen.column - 1) after e ∙ sym (after_same style pen text h begins front.prints)
+front_pen gave style pen fonts text rest s t h begins front = grind (arith, after_same)
 
 -- where they are not taken nothing came
 pub front_left : {P S : Type 0} (left : P → S → List Item → Type 0) (style : TextStyle) (blanks : ℕ) (fonts next : Setting Fonts) (text rest : List ℕ) (cells : List Cell)

@@ -12,12 +12,12 @@ use Rattle.page_core_base.specs.declared.pieces.Piece.{Piece}
 use Rattle.page_core_base.specs.declared.pieces.Piece.TheVariants.{Blank}
 use Rattle.page_core_escapes.specs.Tokens.{TextToken, token_len}
 use Rattle.page_core_escapes.specs.laws.Views.{begins_word}
-use Rattle.page_scopes_words.specs.Words.{at, gap_after, pen_through, white_after, word_after, word_begun, word_ended}
+use Rattle.page_scopes_words.specs.Words.{at, pen_through, white_after, word_after}
 use Rattle.page_scopes_words.specs.declared.settings.Setting.{Setting}
 use Rattle.page_scopes_words.specs.declared.fonts.Fonts.{Fonts}
 use Rattle.page_scopes_text.proofs.PartedLemmas.{blank_len, no_word}
 use Rattle.page_scopes_text.proofs.TextLemmas.{others_more, spaced_word}
-use Rattle.page_scopes_text.specs.Texts.{Spaced, words_of, others_after, others_items, place_after, spaced_after, spaced_items, white_items, body_items, empty_items, gap_items, tokens_items, word_items, word_notes}
+use Rattle.page_scopes_text.specs.Texts.{Spaced, words_of, others_after, others_items, place_after, spaced_after, spaced_items, white_items, tokens_items, word_items, word_notes}
 use Rattle.page_scopes_text.specs.laws.Views.{spaced_front}
 use Rattle.page_scopes_words.specs.machine.Pens.{resting}
 use Rattle.page_scopes_words.specs.machine.Letters.{letters_in}
@@ -37,24 +37,12 @@ word_gives : (style : TextStyle) (line : ℕ) (fonts next : Setting Fonts) (colu
     → pen_through (inside fonts (column + 1) false) word ≡ inside next after true
     → white_items style (place_after line (resting fonts column) (32 ∷ [])) (32 ∷ []) ++ word_items style line false (white_pen style fonts column) word
     ≡ shown (Blank 1 false) ∷ map shown pieces
-word_gives style line fonts next column after word pieces literal notes items pens =
-    let place = at line (column + 1) in
-    let begun : word_begun (gap_after style (white_pen style fonts column)) ≡ inside fonts (column + 1) false = rw literal refl in
-    let white : white_items style (place_after line (resting fonts column) (32 ∷ [])) (32 ∷ []) ≡ [] = rw literal refl in
-    let gap : gap_items style false place (white_pen style fonts column) ≡ shown (Blank 1 false) ∷ [] = rw literal refl in
-    let body : body_items style.is_quoted place (gap_after style (white_pen style fonts column)) word ≡ map shown pieces =
-    ap (λ (p : Pen). tokens_items style.is_quoted place p word ++ empty_items (pen_through p word).has_cell place) begun
-    ∙ ap₂ (λ (i : List Item) (p : Pen). i ++ empty_items p.has_cell place) items pens
-    ∙ append-nil (map shown pieces) in
-    ap₂ (λ (a b : List Item). a ++ b) white (ap₂ (λ (a b : List Item). a ++ b) notes (ap₂ (λ (a b : List Item). a ++ b) gap body))
+word_gives style line fonts next column after word pieces literal notes items pens = grind (arith, ap₂, append-nil)
 
 -- and the pen after it
 word_rests : (style : TextStyle) (fonts next : Setting Fonts) (column after : ℕ) (word : List TextToken) → style.is_literal ≡ false
     → pen_through (inside fonts (column + 1) false) word ≡ inside next after true → word_after style (white_pen style fonts column) word ≡ resting next after
-word_rests style fonts next column after word literal pens =
-    let before = gap_after style (white_pen style fonts column) in
-    let begun : word_begun before ≡ inside fonts (column + 1) false = rw literal refl in
-    ap (λ (p : Pen). word_ended before (pen_through p word)) begun ∙ ap (word_ended before) pens
+word_rests style fonts next column after word literal pens = grind arith
 
 has_piece : (pieces : List (Piece (List ℕ))) (cells : List Cell) → word_letters pieces ≡ cells → 0 < length cells → nat_lt 0 (length pieces) ≡ true
 has_piece [] cells e some = absurd (omega (arith, some, ap (λ (c : List Cell). length c) e))
@@ -141,16 +129,12 @@ word_adds style fonts next text rest before after literal begins ends adds more 
 pieces-append : (xs ys : List (List (Piece (List ℕ)))) → lettered_pieces 1 (xs ++ ys) ≡ lettered_pieces 1 xs ++ lettered_pieces 1 ys
 unfolding lettered_pieces
 pieces-append [] ys = refl
-pieces-append (x ∷ xs) ys =
-    ap (λ (p : List (Piece (List ℕ))). Blank 1 false ∷ (x ++ p)) (pieces-append xs ys)
-    ∙ ap (λ (p : List (Piece (List ℕ))). Blank 1 false ∷ p) (sym (append_assoc x (lettered_pieces 1 xs) (lettered_pieces 1 ys)))
+pieces-append (x ∷ xs) ys = grind (arith, append_assoc, lettered_pieces, pieces-append xs ys)
 
 cells-append : (xs ys : List (List (Piece (List ℕ)))) → lettered_cells (xs ++ ys) ≡ lettered_cells xs ++ lettered_cells ys
 unfolding lettered_cells
 cells-append [] ys = refl
-cells-append (x ∷ xs) ys =
-    ap (λ (c : List Cell). record { c = 32; font = R } ∷ (word_letters x ++ c)) (cells-append xs ys)
-    ∙ ap (λ (c : List Cell). record { c = 32; font = R } ∷ c) (sym (append_assoc (word_letters x) (lettered_cells xs) (lettered_cells ys)))
+cells-append (x ∷ xs) ys = grind (arith, word_letters, append_assoc, lettered_cells, cells-append xs ys)
 
 no_pieces : lettered_pieces 1 [] ≡ []
 unfolding lettered_pieces
@@ -161,12 +145,7 @@ unfolding lettered_cells
 no_cells = refl
 
 pub words_none : (style : TextStyle) (fonts : Setting Fonts) (text : List ℕ) → begins_word text ≡ false → ReadsWords style fonts text fonts text []
-words_none style fonts text ends = record {
-  less = omega arith;
-  ends = ends;
-  gives = λ line last column after e. let same : after ≡ column = omega (arith, e) in ([], refl, no_cells, rw (same, no_pieces) refl);
-  pens = λ column after e. let same : after ≡ column = omega (arith, e) in rw same refl;
-}
+words_none style fonts text ends = grind (arith, no_cells, no_pieces)
 
 pub words_join : (style : TextStyle) (fonts : Setting Fonts) (text : List ℕ) (mid : Setting Fonts) (middle : List ℕ) (next : Setting Fonts) (rest : List ℕ) (a b : List Cell)
     → ReadsWords style fonts text mid middle a → ReadsWords style mid middle next rest b → ReadsWords style fonts text next rest (a ++ b)
@@ -213,9 +192,4 @@ blank_text (b ∷ bs) some e = ap (λ (x : ℕ). x ∷ bs) e
 
 pub blank_adds : (style : TextStyle) (fonts next : Setting Fonts) (text rest : List ℕ) (before between after : List Cell) → 0 < length text → get_or text 0 0 ≡ 32
     → between ≡ before ++ letters_in R (32 ∷ []) → AddsAfterBlank style fonts between (drop 1 text) next after rest → AddsWords style fonts before text next after rest
-blank_adds style fonts next text rest before between after some blank e adds =
-    let cells = adds.0 in (
-      record { c = 32; font = R } ∷ cells,
-      adds.1 ∙ ap (λ (c : List Cell). c ++ cells) e ∙ append_assoc before (record { c = 32; font = R } ∷ []) cells,
-      rw (blank_text text some blank) adds.2.words,
-    )
+blank_adds style fonts next text rest before between after some blank e adds = grind (arith, append_assoc, blank_text)

@@ -1,9 +1,10 @@
 -- The words of a text, token by token.
-use Rattle.std.proofs.Common.{◌≡◌, ℕ, zero, ◌+◌, ◌<◌, ◌≤◌, ◌==◌, ◌&&◌, ◌||◌, cond, not, nat_lt, Bool, true, false, List, [], ◌∷◌, ◌++◌, length, take, drop, refl, ap, ◌∙◌, arith, sym, suc, length-drop, Option, None, Some, inl, inr}
+use Rattle.std.proofs.Common.{◌≡◌, ℕ, zero, ◌+◌, ◌<◌, ◌≤◌, ◌||◌, cond, not, nat_lt, Bool, true, false, List, [], ◌∷◌, ◌++◌, length, take, drop, refl, ap, ◌∙◌, arith, sym, suc, length-drop, Option, None, Some, inl, inr}
 use Rattle.std.specs.List.{list_all, prefix_len}
 use Rattle.std.proofs.lemmas.List.Folds.{length-prefix_len}
 use Rattle.std.proofs.lemmas.Bool.{cases_Bool}
 use Rattle.std.proofs.lemmas.Bool.Decides.{nat_tests}
+use Rattle.std.proofs.lemmas.Grind.{common_steps}
 use Rattle.page_core_base.specs.laws.Views.{is_word}
 use Rattle.page_core_base.specs.declared.places.Place.{Place}
 use Rattle.page_core_escapes.specs.Tokens.{TextToken, white, plain, begins_white, is_space, is_white, prints_itself, token_at, token_len}
@@ -26,23 +27,15 @@ token_before _ text h = refl
 pub words_more : (quoted : Bool) (text : List ℕ) (n : ℕ) → begins_word text ≡ true → 0 < n → n ≡ token_len quoted text
     → words_of quoted text
     ≡ record { word = token_at quoted text ∷ (words_of quoted (drop n text)).word; others = (words_of quoted (drop n text)).others }
-words_more quoted [] n h k e = absurd (never h)
-  where
-    never : false ≡ true → ⊥
-    never e = grind (arith, e)
-words_more quoted (b ∷ bs) n h k e =
-    ap parted (text_tokens quoted (b ∷ bs) n k e)
-    ∙ token_before (token_at quoted (b ∷ bs)) (words_of quoted (drop n (b ∷ bs))) (word_token quoted b bs (not_white b bs h))
+words_more quoted [] n h k e = grind arith
+words_more quoted (b ∷ bs) n h k e = grind (arith, text_tokens, token_before, word_token, not_white)
 
 pub white_token : (quoted : Bool) (b : ℕ) (bs : List ℕ) → is_white b ≡ true → token_at quoted (b ∷ bs) ≡ white (take (prefix_len is_white (b ∷ bs)) (b ∷ bs))
 unfolding token_at
 white_token quoted b bs h = rw h refl
 
 white_bytes : (quoted : Bool) (b : ℕ) (bs : List ℕ) → is_white b ≡ true → token_at quoted (b ∷ bs) ≡ white (take (token_len quoted (b ∷ bs)) (b ∷ bs))
-white_bytes quoted b bs h =
-    let t = white_token quoted b bs h in
-    let len : token_len quoted (b ∷ bs) ≡ prefix_len is_white (b ∷ bs) = rw t (length-prefix_len is_white (b ∷ bs)) in
-    t ∙ ap (λ n. white (take n (b ∷ bs))) (sym len)
+white_bytes quoted b bs h = grind (arith, common_steps, white_token, length-prefix_len)
 
 white_fst : (b : ℕ) (bs : List ℕ) → begins_white (b ∷ bs) ≡ true → is_white b ≡ true
 white_fst b bs h = h
@@ -50,20 +43,11 @@ white_fst b bs h = h
 -- white space parts what follows it from what is before it
 pub spaced_more : (quoted : Bool) (text : List ℕ) (n : ℕ) → begins_white text ≡ true → 0 < n → n ≡ token_len quoted text
     → words_of quoted text ≡ record { word = []; others = spaced_front quoted text ∷ (words_of quoted (drop n text)).others }
-spaced_more quoted [] n h k e = absurd (never h)
-  where
-    never : false ≡ true → ⊥
-    never e = grind (arith, e)
-spaced_more quoted (b ∷ bs) n h k e =
-    ap parted (text_tokens quoted (b ∷ bs) n k e)
-    ∙ ap (λ t. after_token t (words_of quoted (drop n (b ∷ bs)))) (white_bytes quoted b bs (white_fst b bs h))
-    ∙ rw e refl
+spaced_more quoted [] n h k e = grind arith
+spaced_more quoted (b ∷ bs) n h k e = grind (arith, text_tokens, white_bytes, white_fst)
 
 pub white_some : (quoted : Bool) (text : List ℕ) → begins_white text ≡ true → 0 < token_len quoted text
-white_some quoted [] h = absurd (never h)
-  where
-    never : false ≡ true → ⊥
-    never e = grind (arith, e)
+white_some quoted [] h = grind arith
 white_some quoted (b ∷ bs) t = rw (white_token quoted b bs t, length-prefix_len is_white (b ∷ bs), t) (omega arith)
 
 pub words_none : (quoted : Bool) (text : List ℕ) → length text ≤ 0 → words_of quoted text ≡ record { word = []; others = [] }
@@ -97,20 +81,10 @@ escape_some quoted b bs = read_some quoted (b ∷ bs) (escape_len quoted (b ∷ 
 
 token_some : (quoted : Bool) (b : ℕ) (bs : List ℕ) → is_white b ≡ false → 0 < token_len quoted (b ∷ bs)
 unfolding token_at
-token_some quoted b bs t =
-    elim (cases_Bool (b == 92)) [
-      | inl e ↦ rw (t, e) (take_some (escape_of quoted (b ∷ bs)).1 b bs (escape_some quoted b bs))
-      | inr e ↦ elim (cases_Bool (quoted && b == 34)) [
-        | inl q ↦ rw (t, e, q) (take_some 2 b bs (omega arith))
-        | inr q ↦ rw (t, e, q) (take_some (1 + prefix_len (prints_itself quoted) bs) b bs (omega arith))
-      ]
-    ]
+token_some quoted b bs t = grind (arith, take_some, escape_some)
 
 pub word_some : (quoted : Bool) (text : List ℕ) → begins_word text ≡ true → 0 < token_len quoted text
-word_some quoted [] h = absurd (never h)
-  where
-    never : false ≡ true → ⊥
-    never e = grind (arith, e)
+word_some quoted [] h = grind arith
 word_some quoted (b ∷ bs) h = token_some quoted b bs (not_white b bs h)
 
 -- what a word's first token gives, and what its other tokens give
@@ -128,10 +102,7 @@ pub others_same : (quoted : Bool) (text : List ℕ) (n : ℕ) → begins_word te
 others_same quoted text n h k e = sym (ap (λ (t : Parted). t.others) (words_more quoted text n h k e))
 
 pub front_not_space : (quoted : Bool) (text : List ℕ) → begins_word text ≡ true → is_space (token_at quoted text) ≡ false
-front_not_space quoted [] h = absurd (never h)
-  where
-    never : false ≡ true → ⊥
-    never e = grind (arith, e)
+front_not_space quoted [] h = grind arith
 front_not_space quoted (b ∷ bs) h = word_token quoted b bs (not_white b bs h)
 
 -- ---- a word that prints itself
@@ -162,14 +133,7 @@ reads_plain quoted text word e h k is ends =
 pub plain_token : (quoted : Bool) (text : List ℕ) → 0 < prefix_len (prints_itself quoted) text → token_at quoted text ≡ plain (take (prefix_len (prints_itself quoted) text) text)
 unfolding token_at
 plain_token quoted [] h = absurd (omega arith)
-plain_token quoted (b ∷ bs) h =
-    elim (cases_Bool (is_white b)) [
-      | inl t ↦ absurd (omega (arith, rw t at h))
-      | inr t ↦ elim (cases_Bool (b == 92)) [
-        | inl e ↦ absurd (omega (arith, rw (t, e) at h))
-        | inr e ↦ elim (cases_Bool (quoted && b == 34)) [ inl q ↦ absurd (omega (arith, rw (t, e, q) at h)) | inr q ↦ rw (t, e, q) refl ]
-      ]
-    ]
+plain_token quoted (b ∷ bs) h = grind arith
 
 -- what prints itself has no blank
 no_blank : (x y z : Bool) → not ((x || y) || z) ≡ true → not x ≡ true
@@ -191,9 +155,7 @@ some_less n h = grind (arith, nat_tests, h)
 
 -- some bytes that print themselves are a word
 pub plain_word : (quoted : Bool) (text : List ℕ) (n : ℕ) → n ≡ prefix_len (prints_itself quoted) text → 0 < length (take n text) → is_word (take n text) ≡ true
-plain_word quoted text n e some =
-    let front = all_before (prints_itself quoted) (λ b. not (b == 32)) (λ b h. no_blank (b == 32) (b == 9) (b == 92 || (quoted && b == 34)) h) text n (omega (arith, e)) in
-    rw (some_less (length (take n text)) some) front
+plain_word quoted text n e some = grind (arith, all_before, no_blank, some_less)
 
 pub reads_front : (quoted : Bool) (text : List ℕ) (n : ℕ) → n ≡ prefix_len (prints_itself quoted) text → n ≤ length text → 0 < length (take n text)
     → begins_word (drop n text) ≡ false → ReadsPlain quoted text (take n text) (drop n text)

@@ -1,5 +1,5 @@
 -- The words of a text up to a place before which no run of words ends: they are letters.
-use Rattle.std.proofs.Common.{◌≡◌, ℕ, zero, suc, ◌+◌, ◌-◌, ◌<◌, ◌≤◌, ◌==◌, ◌&&◌, ◌||◌, Bool, true, false, not, cond, eqb-true, List, [], ◌∷◌, ◌++◌, length, take, drop, get_or, refl, sym, ap, ap₂, ◌∙◌, arith, inl, inr}
+use Rattle.std.proofs.Common.{◌≡◌, ℕ, zero, suc, ◌+◌, ◌-◌, ◌<◌, ◌≤◌, ◌==◌, ◌&&◌, ◌||◌, Bool, true, false, not, cond, eqb-true, List, [], ◌∷◌, ◌++◌, length, take, drop, get_or, refl, sym, ap, ap₂, ◌∙◌, arith}
 use Rattle.std.specs.List.{list_all, list_any, prefix_len}
 use Rattle.std.proofs.Math.Bool.{or-false}
 use Rattle.std.proofs.Math.Seq.{take-add}
@@ -9,7 +9,6 @@ use Rattle.std.proofs.lemmas.List.Folds.{list_all_at}
 use Rattle.std.proofs.lemmas.List.Sums.{prefix_len-le-length}
 use Rattle.std.proofs.lemmas.Bool.Decides.{nat_tests}
 use Rattle.page_core_base.specs.Rows.{hyphen}
-use Rattle.page_core_base.specs.laws.Views.{is_printable}
 use Rattle.page_core_base.specs.declared.cells.Cell.{Cell}
 use Rattle.page_core_base.specs.declared.cells.Font.{Font}
 use Rattle.page_core_base.specs.declared.cells.Font.TheVariants.{R}
@@ -49,20 +48,10 @@ neither : (h y : Bool) → (h || y) ≡ false → (h ≡ false) × (y ≡ false)
 neither true y e = let no : ⊥ = cc in absurd no
 neither false y e = (refl, e)
 
--- what is printable is no tab
-no_tab : (x : ℕ) → is_printable x ≡ true → (x == 9) ≡ false
-no_tab x h = grind (arith, nat_tests, h)
-
-tab_free : (t p e k : Bool) → (p ≡ true → t ≡ false) → ((not p || e) || k) ≡ false → ((t || e) || k) ≡ false
-tab_free t true e k f h = rw (f refl) h
-tab_free t false e k f h = let no : ⊥ = cc in absurd no
-
 -- a byte that ends no run is no hyphen, and nothing else that ends one
 no_end : (quoted : Bool) (x next : ℕ) → ends_run quoted x next ≡ false
     → ((x == 45) ≡ false) × (((x == 9 || (x == 92 || (quoted && x == 34))) || (x == 32 && next == 32)) ≡ false)
-no_end quoted x next e =
-    let parts = neither (x == 45) ((not (is_printable x) || (x == 92 || (quoted && x == 34))) || (x == 32 && next == 32)) e in
-    (parts.0, tab_free (x == 9) (is_printable x) (x == 92 || (quoted && x == 34)) (x == 32 && next == 32) (no_tab x) parts.1)
+no_end quoted x next e = grind arith
 
 -- what does not print itself and ends no run is a blank
 blank_byte : (quoted : Bool) (x next : ℕ) → prints_itself quoted x ≡ false → ends_run quoted x next ≡ false → x ≡ 32
@@ -117,10 +106,7 @@ word_ends (x ∷ xs) zero e = rw e refl
 word_ends (x ∷ xs) (suc n) e = word_ends xs n e
 
 word_some : (text : List ℕ) (n : ℕ) → get_or text n 32 ≡ 32 → (get_or text 0 32 == 32) ≡ false → 0 < n
-word_some text zero e f = let no : true ≡ false = rw e at f in absurd (never no)
-  where
-    never : true ≡ false → ⊥
-    never e = cc
+word_some text zero e f = grind arith
 word_some text (suc n) e f = omega arith
 
 not_blank : (c d : Bool) → not (c || d) ≡ true → c ≡ false
@@ -158,41 +144,24 @@ first_reads quoted fonts text n m is begins goes end =
     let lettered : Lettered (token_at quoted text) bytes = rw token (plain_lettered bytes (plain_word quoted text m is has) (one_part_of bytes (length bytes) whole refl)) in
     let same : fonts_after (token_at quoted text) fonts ≡ fonts = ap (λ (t : TextToken). fonts_after t fonts) token ∙ plain_fonts fonts bytes in
     let reads = letters_more quoted fonts text fonts text [] bytes m (letters_none quoted fonts text) begins some len fits lettered in
-    let cells : length (letters_in fonts.value.font bytes) ≡ length bytes = length-map bytes (λ (c : ℕ). record { c = c; font = fonts.value.font }) in
-    (within, word_ends text m last, last, omega (arith, has, cells), rw same at reads)
+    grind (arith, length-map, word_ends)
 
 -- a text without a blank is one word
 pub one_word : (text : List ℕ) (m : ℕ) → m ≤ length text → get_or text m 32 ≡ 32 → list_all (λ byte. not (byte == 32)) text ≡ true → m ≡ length text
-one_word text m le last all = elim (cases_lt m (length text)) [
-  | inl lt ↦ absurd (never (sym all ∙ list_all_at (λ byte. not (byte == 32)) text m 32 lt (rw last refl)))
-  | inr ge ↦ omega (arith, le, ge)
-]
-  where
-    never : true ≡ false → ⊥
-    never e = cc
+one_word text m le last all = grind (arith, cases_lt, list_all_at)
 
 -- ---- words, one after another
 
 -- after a blank that ends no run a word begins
 next_begins : (quoted : Bool) (text : List ℕ) (n : ℕ) → GoesOn quoted text 0 n → get_or text n 32 ≡ 32 → (get_or text 0 32 == 32) ≡ false → begins_word text ≡ true
 next_begins quoted [] n h e f = let no : ⊥ = cc in absurd no
-next_begins quoted (x ∷ xs) zero h e f = absurd (never (sym (rw e refl) ∙ f))
-  where
-    never : true ≡ false → ⊥
-    never e = cc
+next_begins quoted (x ∷ xs) zero h e f = grind arith
 next_begins quoted (x ∷ xs) (suc n) h e f =
     let parts = neither ((x == 9 || (x == 92 || (quoted && x == 34)))) (x == 32 && get_or xs 0 32 == 32) (no_end quoted x (get_or xs 0 32) (h 0 (omega arith) (omega arith))).1 in
-    let tab = neither (x == 9) (x == 92 || (quoted && x == 34)) parts.0 in
-    rw (f, tab.0) refl
-
-reads_as : (style : TextStyle) (fonts : Setting Fonts) (text rest : List ℕ) (cells : List Cell) (is left : List ℕ) (are : List Cell) → text ≡ is → rest ≡ left → cells ≡ are
-    → ReadsWords style fonts is fonts left are → ReadsWords style fonts text fonts rest cells
-reads_as style fonts text rest cells is left are e f g r = rw (e, f, g) r
+    grind arith
 
 goes_beyond : (quoted : Bool) (text : List ℕ) (m n k : ℕ) → m + k ≡ n → GoesOn quoted text 0 n → GoesOn quoted (drop m text) 0 k
-goes_beyond quoted text m n k e h = λ i low high.
-    let next : m + suc i ≡ suc (m + i) = omega arith in
-    ap₂ (ends_run quoted) (get_or-drop m text i 32) (get_or-drop m text (suc i) 32 ∙ ap (λ (j : ℕ). get_or text j 32) next) ∙ h (m + i) (omega arith) (omega (arith, high, e))
+goes_beyond quoted text m n k e h = grind (arith, ap₂, get_or-drop)
 
 -- up to a blank, or the text's end, such a text is words of letters
 run_up_to : (most : ℕ) (style : TextStyle) (fonts : Setting Fonts) (text : List ℕ) (n : ℕ) → style.is_literal ≡ false → fonts.value.font ≡ R → n ≤ most → n ≤ length text
@@ -223,8 +192,7 @@ run_up_to (suc most) style fonts (x ∷ xs) (suc n) literal roman le short begin
     ap₂ (λ (b : ℕ) (bs : List ℕ). letters_in R (b ∷ bs)) blank front
     ∙ ap (λ (l : List Cell). record { c = 32; font = R } ∷ l)
     (map-append (λ c. record { c = c; font = R }) (take m xs) (take k (drop m xs)) ∙ ap (λ (f : Font). letters_in f (take m xs) ++ others) (sym roman)) in
-    reads_as style fonts (x ∷ xs) (drop n xs) (letters_in R (x ∷ take n xs)) (32 ∷ xs) (drop k (drop m xs)) (record { c = 32; font = R } ∷ (word ++ others))
-    (ap (λ (b : ℕ). b ∷ xs) blank) back cells both
+    grind arith
 
 first_goes : (quoted : Bool) (b : ℕ) → (b == 32) ≡ false → ends_run quoted 32 b ≡ false
 first_goes true b h = rw h refl

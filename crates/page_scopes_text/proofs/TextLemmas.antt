@@ -37,8 +37,7 @@ spaced_end : (style : TextStyle) (line last : ℕ) (pen : Pen) (text white rest 
     → white ≡ take n text → rest ≡ drop n text → begins_word rest ≡ false
     → (spaced_items style line last pen (spaced_front style.is_quoted text) ≡ white_items style (at line last) white)
     × (spaced_after style pen (spaced_front style.is_quoted text) ≡ white_after style pen white)
-spaced_end style line last pen text white rest n e w r h =
-    rw (← e, ← w, ← r, no_word style.is_quoted rest h) (append-nil (white_items style (at line last) white), refl)
+spaced_end style line last pen text white rest n e w r h = grind (arith, no_word, append-nil)
 
 -- ---- one part after another
 
@@ -48,9 +47,7 @@ pub others_more : (style : TextStyle) (line last : ℕ) (pen : Pen) (text : List
     ++ others_items style line last (spaced_after style pen (spaced_front style.is_quoted text)) (words_of style.is_quoted (drop (token_len style.is_quoted text) text)).others)
     × (others_after style pen (words_of style.is_quoted text).others
     ≡ others_after style (spaced_after style pen (spaced_front style.is_quoted text)) (words_of style.is_quoted (drop (token_len style.is_quoted text) text)).others)
-others_more style line last pen text h =
-    let more = spaced_more style.is_quoted text (token_len style.is_quoted text) h (white_some style.is_quoted text h) refl in
-    (ap (λ (t : Parted). others_items style line last pen t.others) more, ap (λ (t : Parted). others_after style pen t.others) more)
+others_more style line last pen text h = grind (arith, spaced_more, white_some)
 
 -- a word after white space, and those after it
 pub others_spaced : (style : TextStyle) (line last : ℕ) (pen : Pen) (text white rest : List ℕ) (n : ℕ) → begins_white text ≡ true → n ≡ token_len style.is_quoted text
@@ -63,10 +60,7 @@ others_spaced style line last pen text white rest n b e w r h =
     let parts = words_of style.is_quoted rest in
     let pen_white = white_after style pen white in
     let all = others_more style line last pen text b in
-    let spaced = spaced_word style line last pen text white rest n e w r h in (
-      all.0 ∙ rw (spaced.0, spaced.1, ← e, ← r) (append_assoc (white_items style (place_after line pen white) white) (word_items style line (has_tab white) pen_white parts.word) _),
-      all.1 ∙ rw (spaced.1, ← e, ← r) refl,
-    )
+    grind (arith, spaced_word, append_assoc)
 
 -- white space at a text's end
 pub others_end : (style : TextStyle) (line last : ℕ) (pen : Pen) (text white rest : List ℕ) (n : ℕ) → begins_white text ≡ true → n ≡ token_len style.is_quoted text
@@ -76,8 +70,7 @@ pub others_end : (style : TextStyle) (line last : ℕ) (pen : Pen) (text white r
     × (others_after style pen (words_of style.is_quoted text).others ≡ others_after style (white_after style pen white) (words_of style.is_quoted rest).others)
 others_end style line last pen text white rest n b e w r h =
     let all = others_more style line last pen text b in
-    let spaced = spaced_end style line last pen text white rest n e w r h in
-    (all.0 ∙ rw (spaced.0, spaced.1, ← e, ← r) refl, all.1 ∙ rw (spaced.1, ← e, ← r) refl)
+    grind (arith, spaced_end)
 
 pub no_others : (quoted : Bool) (text : List ℕ) → length text ≤ 0 → (words_of quoted text).others ≡ []
 no_others quoted text h = ap (λ (t : Parted). t.others) (words_none quoted text h)
@@ -104,9 +97,7 @@ text_leading : (style : TextStyle) (line last : ℕ) (pen : Pen) (text : List �
     ++ others_items style line last (leading_after style pen (spaced_front style.is_quoted text)) (words_of style.is_quoted (drop (token_len style.is_quoted text) text)).others)
     × (text_after style pen (words_of style.is_quoted text)
     ≡ others_after style (leading_after style pen (spaced_front style.is_quoted text)) (words_of style.is_quoted (drop (token_len style.is_quoted text) text)).others)
-text_leading style line last pen text h =
-    let more = spaced_more style.is_quoted text (token_len style.is_quoted text) h (white_some style.is_quoted text h) refl in
-    (ap (words_items style line last pen) more, ap (text_after style pen) more)
+text_leading style line last pen text h = grind (arith, spaced_more, white_some)
 
 -- white space that ends no row is a text's front like any other, but for the blank before it
 pub text_gap : (style : TextStyle) (line last : ℕ) (pen : Pen) (text : List ℕ) → is_indented style ≡ false → begins_white text ≡ true

@@ -1,33 +1,15 @@
 -- Acts with asides: helpers of proofs.
-use Rattle.std.proofs.Common.{◌≡◌, ℕ, zero, suc, ◌≤◌, ◌<◌, List, [], ◌∷◌, ◌++◌, length, drop, refl, ap, arith}
+use Rattle.std.proofs.Common.{◌≡◌, ℕ, zero, suc, List, [], ◌∷◌, ◌++◌, drop, refl, ap, arith}
 use Rattle.page_scopes_tree.specs.machine.Nestings.{Standing, as_node, as_leaf, as_nothing, Nesting, standing_of, IsSound}
 use Rattle.page_scopes_tree.specs.declared.nestings.Scope.{Scope}
 use Rattle.page_scopes_tree.specs.laws.Views.{labels}
 use Rattle.page_scopes_tree.specs.Ends.{TreeEdge}
 use Rattle.page_scopes_tree.specs.machine.Layouts.{Layout}
 use Rattle.page_scopes_tree.specs.machine.Machines.{ended_items, ended_state, placed_items, placed_state, placed_scopes, count_ended, state_left, step, step_items}
-use Rattle.page_scopes_tree.specs.machine.Asides.{With, act, aside, ends_with, stands_with, standing_with, with_asides, Sides, layout_with, beside, before_leaf}
-
-fits_with : {Y M L A F : Type 0} (nests : Nesting M L A F) {most : ℕ} → IsSound nests most → (m : M) (a : With Y A) (nodes : List L)
-    → ends_with nests m a nodes ≤ length nodes
-fits_with nests k m (act a) nodes = k.fits m a nodes
-fits_with nests k m (aside y) nodes = omega arith
-
-node_with : {Y L F : Type 0} (st : Standing L F) (l : L) → stands_with {Y = Y} st ≡ as_node l → st ≡ as_node l
-node_with (as_node k) l e = cc
-node_with (as_leaf f) l e = absurd (cc)
-node_with as_nothing l e = absurd (cc)
-
-room_with : {Y M L A F : Type 0} (nests : Nesting M L A F) {most : ℕ} → IsSound nests most → (m : M) (a : With Y A) (n : ℕ) (nodes : List L) (l : L)
-    → standing_with nests m a n nodes ≡ as_node l → length nodes < most
-room_with nests k m (act a) n nodes l e = k.room m a n nodes l (node_with (nests.standing m a n nodes) l e)
-room_with nests k m (aside y) n nodes l e = absurd (cc)
+use Rattle.page_scopes_tree.specs.machine.Asides.{act, aside, stands_with, with_asides, Sides, layout_with, beside, before_leaf}
 
 pub sound_with : {Y M L A F : Type 0} (nests : Nesting M L A F) (most : ℕ) → IsSound nests most → IsSound (with_asides {Y = Y} nests) most
-sound_with nests most k = record {
-  fits = λ m a nodes. fits_with nests k m a nodes;
-  room = λ m a n nodes l e. room_with nests k m a n nodes l e;
-}
+sound_with nests most k = grind arith
 
 module _ {Y M L A F H S B I : Type 0} (nests : Nesting M L A F) (lays : Layout L A F S B I) (sides : Sides Y A F H S I) where
   ended_items_with : (n : ℕ) (a : A) (scopes : List (Scope L B)) (own : H) (s : S)

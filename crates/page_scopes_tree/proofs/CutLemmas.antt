@@ -2,21 +2,18 @@
 use Rattle.std.proofs.Common.{◌≡◌, ℕ, zero, suc, ◌+◌, ◌≤◌, ◌<◌, List, [], ◌∷◌, ◌++◌, length, drop, refl, sym, ◌∙◌, ap, append_assoc, arith, zero-add, length-drop}
 use Rattle.std.proofs.Math.Nat.{suc-add}
 use Rattle.std.proofs.lemmas.List.{append-nil}
-use Rattle.page_scopes_tree.specs.machine.Nestings.{Standing, as_node, as_leaf, as_nothing, Nesting, standing_of, IsSound}
+use Rattle.page_scopes_tree.specs.machine.Nestings.{Standing, as_node, as_leaf, as_nothing, Nesting, IsSound}
 use Rattle.page_scopes_tree.specs.declared.nestings.Scope.{Scope}
-use Rattle.page_scopes_tree.specs.laws.Views.{labels}
 use Rattle.page_scopes_tree.specs.Ends.{TreeEdge}
 use Rattle.page_scopes_tree.specs.machine.Layouts.{Layout, settled, edge}
-use Rattle.page_scopes_tree.specs.machine.Machines.{ended_items, ended_state, placed_scopes, count_ended, state_left, step_items, step, run_items, run}
+use Rattle.page_scopes_tree.specs.machine.Machines.{ended_items, ended_state, placed_scopes, step_items, step, run_items, run}
 use Rattle.page_scopes_tree.proofs.RunLemmas.{settled-run, length-labels, left_labels}
 use Rattle.page_scopes_tree.proofs.EdgeLemmas.{edge-run}
 
 run_items-append : {M L A F S B I : Type 0} (nests : Nesting M L A F) (lays : Layout L A F S B I) (d : TreeEdge M L S B) (acts more : List A) →
     run_items nests lays d (acts ++ more) ≡ run_items nests lays d acts ++ run_items nests lays (run nests lays d acts) more
 run_items-append nests lays d [] more = refl
-run_items-append nests lays d (a ∷ acts) more =
-    ap (λ t. step_items nests lays d a ++ t) (run_items-append nests lays (step nests lays d a) acts more)
-    ∙ sym (append_assoc (step_items nests lays d a) _ _)
+run_items-append nests lays d (a ∷ acts) more = grind (arith, append_assoc, run_items-append nests lays (step nests lays d a) acts more)
 
 run-append : {M L A F S B I : Type 0} (nests : Nesting M L A F) (lays : Layout L A F S B I) (d : TreeEdge M L S B) (acts more : List A) →
     run nests lays d (acts ++ more) ≡ run nests lays (run nests lays d acts) more
@@ -26,19 +23,12 @@ run-append nests lays d (a ∷ acts) more = run-append nests lays (step nests la
 -- the cut law, for any cut: what is given
 pub settled-append : {M L A F S B I : Type 0} (nests : Nesting M L A F) {most : ℕ} (sound : IsSound nests most) (lays : Layout L A F S B I) (d : TreeEdge M L S B) (acts more : List A) →
     settled nests lays d (acts ++ more) ≡ settled nests lays d acts ++ settled nests lays (edge nests lays d acts) more
-settled-append nests sound lays d acts more =
-    settled-run nests sound lays d (acts ++ more) ∙ run_items-append nests lays d acts more
-    ∙ ap (λ t. t ++ run_items nests lays (run nests lays d acts) more) (sym (settled-run nests sound lays d acts))
-    ∙ ap (λ t. settled nests lays d acts ++ t)
-    (sym (settled-run nests sound lays (run nests lays d acts) more)
-    ∙ ap (λ t. settled nests lays t more) (sym (edge-run nests sound lays d acts)))
+settled-append nests sound lays d acts more = grind (arith, settled-run, run_items-append, edge-run)
 
 -- the cut law: what decides the rest
 pub edge-append : {M L A F S B I : Type 0} (nests : Nesting M L A F) {most : ℕ} (sound : IsSound nests most) (lays : Layout L A F S B I) (d : TreeEdge M L S B) (acts more : List A) →
     edge nests lays d (acts ++ more) ≡ edge nests lays (edge nests lays d acts) more
-edge-append nests sound lays d acts more =
-    edge-run nests sound lays d (acts ++ more) ∙ run-append nests lays d acts more ∙ sym (edge-run nests sound lays (run nests lays d acts) more)
-    ∙ ap (λ t. edge nests lays t more) (sym (edge-run nests sound lays d acts))
+edge-append nests sound lays d acts more = grind (arith, edge-run, run-append)
 
 -- one act
 pub settled-one : {M L A F S B I : Type 0} (nests : Nesting M L A F) {most : ℕ} (sound : IsSound nests most) (lays : Layout L A F S B I) (d : TreeEdge M L S B) (a : A) →
@@ -59,12 +49,7 @@ placed_fit lays most as_nothing a scopes s h k = k
 
 pub step_fits : {M L A F S B I : Type 0} (nests : Nesting M L A F) {most : ℕ} (sound : IsSound nests most) (lays : Layout L A F S B I) (d : TreeEdge M L S B) (a : A) →
     length d.scopes ≤ most → length (step nests lays d a).scopes ≤ most
-step_fits nests {most = most} sound lays d a h =
-    let n = count_ended nests d a in
-    let same : length (drop n (labels d.scopes)) ≡ length (drop n d.scopes) = ap length (left_labels n d.scopes) ∙ length-labels (drop n d.scopes) in
-    let less : length (drop n d.scopes) ≤ most = omega (arith, length-drop n d.scopes) in
-    placed_fit lays most (standing_of nests d.mode a (labels d.scopes)) a (drop n d.scopes) (state_left nests lays d a)
-    (λ l q. let room = sound.room d.mode a n (drop n (labels d.scopes)) l q in omega arith) less
+step_fits nests {most = most} sound lays d a h = grind (arith, left_labels, length-labels, length-drop, placed_fit)
 
 run_fits : {M L A F S B I : Type 0} (nests : Nesting M L A F) {most : ℕ} (sound : IsSound nests most) (lays : Layout L A F S B I) (d : TreeEdge M L S B) (acts : List A) →
     length d.scopes ≤ most → length (run nests lays d acts).scopes ≤ most
@@ -81,10 +66,6 @@ no_items : {L A F S B I : Type 0} (lays : Layout L A F S B I) (n : ℕ) (a : A) 
 no_items lays zero a s = refl
 no_items lays (suc n) a s = refl
 
-same_state : {L A F S B I : Type 0} (lays : Layout L A F S B I) (n : ℕ) (a : A) (s : S) → ended_state lays n a [] s ≡ s
-same_state lays zero a s = refl
-same_state lays (suc n) a s = refl
-
 pub ended_items-add : {L A F S B I : Type 0} (lays : Layout L A F S B I) (m n : ℕ) (a : A) (scopes : List (Scope L B)) (s : S) →
     ended_items lays (m + n) a scopes s ≡ ended_items lays m a scopes s ++ ended_items lays n a (drop m scopes) (ended_state lays m a scopes s)
 ended_items-add lays zero n a scopes s = rw zero-add refl
@@ -93,9 +74,3 @@ ended_items-add lays (suc m) n a (scope ∷ scopes) s =
     let here = lays.end_items scope.label scope.before a s in
     rw suc-add
     (ap (λ t. here ++ t) (ended_items-add lays m n a scopes (lays.end_state scope.label scope.before a s)) ∙ sym (append_assoc here _ _))
-
-pub ended_state-add : {L A F S B I : Type 0} (lays : Layout L A F S B I) (m n : ℕ) (a : A) (scopes : List (Scope L B)) (s : S) →
-    ended_state lays (m + n) a scopes s ≡ ended_state lays n a (drop m scopes) (ended_state lays m a scopes s)
-ended_state-add lays zero n a scopes s = rw zero-add refl
-ended_state-add lays (suc m) n a [] s = same_state lays (suc m + n) a s ∙ sym (same_state lays n a s)
-ended_state-add lays (suc m) n a (scope ∷ scopes) s = rw suc-add (ended_state-add lays m n a scopes (lays.end_state scope.label scope.before a s))

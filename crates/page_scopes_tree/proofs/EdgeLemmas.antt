@@ -1,13 +1,13 @@
 -- What decides the rest after the tree is what the stack has.
-use Rattle.std.proofs.Common.{◌≡◌, ℕ, zero, suc, ◌≤◌, List, [], ◌∷◌, ◌++◌, length, drop, refl, sym, ◌∙◌, ap, append_assoc, arith}
+use Rattle.std.proofs.Common.{◌≡◌, ℕ, zero, suc, ◌≤◌, List, [], ◌∷◌, ◌++◌, length, drop, refl, sym, ap, append_assoc, arith}
 use Rattle.std.proofs.lemmas.List.{append-nil}
 use Rattle.page_scopes_tree.specs.machine.Nestings.{Standing, as_node, as_leaf, as_nothing, Nesting, left_by, standing_of, mode_of, inside, IsSound}
 use Rattle.page_scopes_tree.specs.machine.Forests.{Ender, by_act, still_open, Forest, none, node, After, Rest, leaf_first, node_of, ended, placed, all_open, tree}
 use Rattle.page_scopes_tree.specs.declared.nestings.Scope.{Scope}
 use Rattle.page_scopes_tree.specs.laws.Views.{labels}
 use Rattle.page_scopes_tree.specs.Ends.{TreeEdge}
-use Rattle.page_scopes_tree.specs.machine.Layouts.{Layout, scope_of, after, open_in, open_outer, open_rest, after_outer, after_rest, mode_after, edge}
-use Rattle.page_scopes_tree.specs.machine.Machines.{ended_state, placed_state, placed_scopes, count_ended, state_left, step, run}
+use Rattle.page_scopes_tree.specs.machine.Layouts.{Layout, scope_of, open_outer, open_rest, after_outer, after_rest, mode_after, edge}
+use Rattle.page_scopes_tree.specs.machine.Machines.{ended_state, placed_state, placed_scopes, step, run}
 use Rattle.page_scopes_tree.proofs.RunLemmas.{ends_fit, left_labels}
 
 -- once a node is open, those around it are
@@ -83,26 +83,14 @@ held_node_by : {L A F S B I : Type 0} (lays : Layout L A F S B I) (l : L) (a : A
     ≡ held_of lays (scope_of lays l a s ∷ scopes) (lays.begin_state l a s) (record { here = inner; outer = record { ender = x; siblings = g } ∷ outer })
 unfolding held_of
 held_node_by lays l a inner (by_act y) g outer scopes s h = refl
-held_node_by lays l a inner still_open g outer scopes s h =
-    let scope = scope_of lays l a s in
-    let s' = after lays inner (lays.begin_state l a s) in
-    let found = open_in lays inner (lays.begin_state l a s) in
-    let eq : open_outer lays (found ++ scope ∷ []) scopes (after lays g s') outer ≡ found ++ scope ∷ scopes =
-    open_first lays (found ++ scope ∷ []) scopes (after lays g s') outer (h refl) ∙ append_assoc found (scope ∷ []) scopes in
-    let family : List _ → Held _ _ _ = λ t. record { scopes = t; state = after_outer lays scopes (after lays g s') outer } in
-    ap family eq
+held_node_by lays l a inner still_open g outer scopes s h = grind (arith, open_first, append_assoc)
 
 held_node_of : {L A F S B I : Type 0} (lays : Layout L A F S B I) (l : L) (a : A) (inner : Forest L A F) (outer : List (After L A F))
     (scopes : List (Scope L B)) (s : S) → IsTidy outer →
     held_of lays scopes s (node_of l a inner outer)
     ≡ held_of lays (scope_of lays l a s ∷ scopes) (lays.begin_state l a s) (record { here = inner; outer = outer })
 unfolding held_of IsTidy
-held_node_of lays l a inner [] scopes s h =
-    let found = open_in lays inner (lays.begin_state l a s) in
-    let eq : (found ++ scope_of lays l a s ∷ []) ++ scopes ≡ found ++ scope_of lays l a s ∷ scopes =
-    append_assoc found (scope_of lays l a s ∷ []) scopes in
-    let family : List _ → Held _ _ _ = λ t. record { scopes = t; state = after lays inner (lays.begin_state l a s) } in
-    ap family eq
+held_node_of lays l a inner [] scopes s h = grind (arith, append_assoc)
 held_node_of lays l a inner (next ∷ outer) scopes s h = held_node_by lays l a inner next.ender next.siblings outer scopes s h.0
 
 held_leaf : {L A F S B I : Type 0} (lays : Layout L A F S B I) (f : F) (r : Rest L A F) (scopes : List (Scope L B)) (s : S) →
@@ -114,11 +102,8 @@ held_placed : {L A F S B I : Type 0} (lays : Layout L A F S B I) (st : Standing 
     (scopes : List (Scope L B)) (s : S) → ((open_nodes : List L) → IsTidy (rest open_nodes).outer) → left ≡ labels scopes →
     held_of lays scopes s (placed st a left rest)
     ≡ held_of lays (placed_scopes lays st a scopes s) (placed_state lays st a s) (rest (labels (placed_scopes lays st a scopes s)))
-held_placed lays (as_node l) a left rest scopes s tidy h =
-    held_node_of lays l a (rest (l ∷ left)).here (rest (l ∷ left)).outer scopes s (tidy (l ∷ left))
-    ∙ ap (λ t. held_of lays (scope_of lays l a s ∷ scopes) (lays.begin_state l a s) (rest (l ∷ t))) h
-held_placed lays (as_leaf f) a left rest scopes s tidy h =
-    held_leaf lays f (rest left) scopes s ∙ ap (λ t. held_of lays scopes (lays.leaf_state f s) (rest t)) h
+held_placed lays (as_node l) a left rest scopes s tidy h = grind (arith, held_node_of, held_of)
+held_placed lays (as_leaf f) a left rest scopes s tidy h = grind (arith, held_leaf, held_of)
 held_placed lays as_nothing a left rest scopes s tidy h = ap (λ t. held_of lays scopes s (rest t)) h
 
 held_all_open : {L A F S B I : Type 0} (lays : Layout L A F S B I) (scopes : List (Scope L B)) (s : S) →
@@ -141,37 +126,14 @@ held_tree : {M L A F S B I : Type 0} (nests : Nesting M L A F) {most : ℕ} (sou
     held_of lays d.scopes d.state (tree nests d.mode (labels d.scopes) acts) ≡ held (run nests lays d acts).scopes (run nests lays d acts).state
 held_tree nests sound lays d [] = held_all_open lays d.scopes d.state
 held_tree nests sound lays d (a ∷ acts) =
-    let n = count_ended nests d a in
-    let left = drop n (labels d.scopes) in
-    let st = standing_of nests d.mode a (labels d.scopes) in
-    let scopes = drop n d.scopes in
-    let s = state_left nests lays d a in
-    let m = mode_of nests d.mode a (labels d.scopes) in
-    let rest : List _ → Rest _ _ _ = λ open_nodes. tree nests m open_nodes acts in
-    held_ended lays n a (placed st a left rest) d.scopes d.state (ends_fit nests sound d a)
-    ∙ held_placed lays st a left rest scopes s (λ open_nodes. IsTidy-tree nests acts m open_nodes) (left_labels n d.scopes)
-    ∙ held_tree nests sound lays (step nests lays d a) acts
+    grind (arith, held_ended, ends_fit, held_placed, IsTidy-tree, left_labels, held_tree nests sound lays (step nests lays d a) acts)
 
 mode_run : {M L A F S B I : Type 0} (nests : Nesting M L A F) (lays : Layout L A F S B I) (d : TreeEdge M L S B) (acts : List A) →
     mode_after nests d.mode (labels d.scopes) acts ≡ (run nests lays d acts).mode
 mode_run nests lays d [] = refl
-mode_run nests lays d (a ∷ acts) =
-    let st = standing_of nests d.mode a (labels d.scopes) in
-    let m = mode_of nests d.mode a (labels d.scopes) in
-    ap (λ t. mode_after nests m t acts)
-    (placed_labels lays st a (drop (count_ended nests d a) (labels d.scopes)) (drop (count_ended nests d a) d.scopes) (state_left nests lays d a)
-    (left_labels (count_ended nests d a) d.scopes))
-    ∙ mode_run nests lays (step nests lays d a) acts
+mode_run nests lays d (a ∷ acts) = grind (arith, placed_labels, left_labels, mode_run nests lays (step nests lays d a) acts)
 
 pub edge-run : {M L A F S B I : Type 0} (nests : Nesting M L A F) {most : ℕ} (sound : IsSound nests most) (lays : Layout L A F S B I) (d : TreeEdge M L S B) (acts : List A) →
     edge nests lays d acts ≡ run nests lays d acts
 unfolding held_of held edge
-edge-run nests sound lays d acts =
-    let h = held_tree nests sound lays d acts in
-    let of_mode : _ → TreeEdge _ _ _ _ = λ m. record {
-      mode = m;
-      scopes = open_rest lays d.scopes d.state (tree nests d.mode (labels d.scopes) acts);
-      state = after_rest lays d.scopes d.state (tree nests d.mode (labels d.scopes) acts);
-    } in
-    let of_held : Held _ _ _ → TreeEdge _ _ _ _ = λ k. record { mode = (run nests lays d acts).mode; scopes = k.scopes; state = k.state } in
-    ap of_mode (mode_run nests lays d acts) ∙ ap of_held h
+edge-run nests sound lays d acts = grind (arith, held_tree, mode_run)

@@ -1,6 +1,6 @@
 -- No event ends more scopes than are open, and none opens where too many are.
-use Rattle.std.proofs.Common.{◌≡◌, ℕ, zero, suc, ◌<◌, ◌≤◌, ◌&&◌, Bool, true, false, not, List, length, if◌then◌else◌, Option, None, Some, refl, arith}
-use Rattle.std.specs.Prelude.{ℤ, pos, int_lt, nat_abs, reverse}
+use Rattle.std.proofs.Common.{◌≡◌, ℕ, zero, suc, ◌<◌, ◌≤◌, ◌&&◌, Bool, true, false, not, List, length, if◌then◌else◌, None, Some, refl, arith}
+use Rattle.std.specs.Prelude.{ℤ}
 use Rattle.std.proofs.lemmas.Bool.Decides.{nat_tests}
 use Rattle.std.proofs.lemmas.List.Sums.{prefix_len-le-length}
 use Rattle.page_core_numbers.specs.Expressions.{expression_of}
@@ -19,9 +19,8 @@ use Rattle.page_sets_lines.specs.declared.openers.LineOpener.TheVariants as line
 use Rattle.page_sets_lines.specs.declared.openers.Closer.{Closer}
 use Rattle.page_sets_lines.specs.declared.openers.Closer.TheVariants as closers
 use Rattle.page_scopes_tree.specs.laws.Views.{Step, comes, does}
-use Rattle.page_scopes_tree.specs.Ends.{inside, up_to, line_scopes, up_to_explicit, up_to_paragraph, place_of_margin, up_to_margin, opener_ends, closer_ends, kind_ends, act_ends}
-use Rattle.page_scopes_tree.proofs.MarginLemmas.{but_outside}
-use Rattle.page_scopes_labels.specs.Labels.{is_line, is_enclosure, is_section, is_paragraph, is_item, is_list, is_explicit, is_level}
+use Rattle.page_scopes_tree.specs.Ends.{inside, up_to, line_scopes, up_to_explicit, up_to_paragraph, up_to_margin, opener_ends, closer_ends, kind_ends, act_ends}
+use Rattle.page_scopes_labels.specs.Labels.{is_line, is_enclosure, is_section, is_item, is_list, is_explicit}
 use Rattle.page_scopes_tree.specs.machine.Nests.{standing_by, step_ends, step_standing, scopes_nesting}
 use Rattle.page_scopes_tree.specs.Placements.{has_room, in_list, in_headed_list, opened, opener_placement, line_placement, closed, closer_placement, in_line_scope, is_dropped, kind_placement, act_placement, opener_label, is_passed_over}
 use Rattle.page_core_base.specs.declared.limits.TheConstants.{SCOPES}
@@ -46,21 +45,14 @@ item-fits : (nodes : List Label) → (up_to (inside is_item nodes) (inside is_li
 item-fits nodes = up_to-fits (inside is_item nodes) (inside is_list nodes) (length nodes) (prefix_len-le-length (λ label. not (is_list label)) nodes)
 
 paragraph-fits : (nodes : List Label) → up_to_paragraph nodes ≤ length nodes
-paragraph-fits nodes =
-    up_to-fits (inside is_paragraph nodes) (inside is_level nodes) (length nodes) (prefix_len-le-length (λ label. not (is_level label)) nodes)
-
-but_outside-fits : (o : Option ℕ) (count : ℕ) → but_outside o count ≤ count
-but_outside-fits None count = omega arith
-but_outside-fits (Some i) count = omega arith
+paragraph-fits nodes = grind (arith, up_to-fits, prefix_len-le-length)
 
 either-fits : (test : Bool) (m n most : ℕ) → m ≤ most → n ≤ most → (if test then m else n) ≤ most
 either-fits true m n most h k = h
 either-fits false m n most h k = k
 
 margin-fits : (number : ℤ) (nodes : List Label) → up_to_margin number nodes ≤ length nodes
-margin-fits number nodes =
-    either-fits (int_lt number (pos 1)) 0 _ (length nodes) (omega arith)
-    (but_outside-fits (place_of_margin (nat_abs number) (reverse nodes)) (length nodes))
+margin-fits number nodes = grind arith
 
 opener-fits : (opener : Opener (List ℕ)) (nodes : List Label) → opener_ends opener nodes ≤ length nodes
 opener-fits openers.Item nodes = item-fits nodes

@@ -1,5 +1,5 @@
 -- Where the relative margin of a number is, scope by scope.
-use Rattle.std.proofs.Common.{◌≡◌, ℕ, suc, ◌+◌, ◌-◌, ◌<◌, ◌≤◌, ◌==◌, true, false, List, [], ◌∷◌, ◌++◌, length, reverse, get_or, drop, refl, sym, ap, ◌∙◌, arith, Option, None, Some}
+use Rattle.std.proofs.Common.{◌≡◌, ℕ, suc, ◌+◌, ◌-◌, ◌<◌, ◌≤◌, ◌==◌, true, false, List, [], ◌∷◌, length, reverse, get_or, drop, refl, ap, ◌∙◌, arith, Option, None, Some}
 use Rattle.std.proofs.lemmas.List.{drop_more, drop_all, map-append, reverse-reverse, length-reverse}
 use Rattle.std.proofs.lemmas.Grind.{reverse_onto}
 use Rattle.std.specs.Prelude.{ℤ, pos, int_lt, nat_abs}
@@ -28,23 +28,19 @@ from_start (Some i) = let e : i ≡ i + 0 = omega arith in ap Some e
 pub margin_goes_on : {B : Type 0} (scopes : List (Scope Label B)) (i k : ℕ) (scope : Scope Label B) → i < length scopes
     → scope ≡ get_or scopes i scope → is_margin scope.label ≡ false
     → after_outer i (place_of_margin k (labels (drop i scopes))) ≡ after_outer (i + 1) (place_of_margin k (labels (drop (i + 1) scopes)))
-margin_goes_on scopes i k scope h e f =
-    rw (drop_more scopes i scope h, sym e, f) (after_one i (place_of_margin k (labels (drop (i + 1) scopes))))
+margin_goes_on scopes i k scope h e f = grind (arith, drop_more, after_one)
 
 -- one of those before it
 pub margin_counts : {B : Type 0} (scopes : List (Scope Label B)) (i k : ℕ) (scope : Scope Label B) → i < length scopes
     → scope ≡ get_or scopes i scope → is_margin scope.label ≡ true → (k == 1) ≡ false
     → after_outer i (place_of_margin k (labels (drop i scopes))) ≡ after_outer (i + 1) (place_of_margin (k - 1) (labels (drop (i + 1) scopes)))
-margin_counts scopes i k scope h e f g =
-    rw (drop_more scopes i scope h, sym e, f, g) (after_one i (place_of_margin (k - 1) (labels (drop (i + 1) scopes))))
+margin_counts scopes i k scope h e f g = grind (arith, drop_more, after_one)
 
 -- the one itself
 pub margin_found : {B : Type 0} (scopes : List (Scope Label B)) (i k : ℕ) (scope : Scope Label B) → i < length scopes
     → scope ≡ get_or scopes i scope → is_margin scope.label ≡ true → (k == 1) ≡ true
     → after_outer i (place_of_margin k (labels (drop i scopes))) ≡ Some i
-margin_found scopes i k scope h e f g =
-    let zero : 0 + i ≡ i = omega arith in
-    rw (drop_more scopes i scope h, sym e, f, g) (ap Some zero)
+margin_found scopes i k scope h e f g = grind (arith, drop_more)
 
 -- none is left
 pub margin_missing : {B : Type 0} (scopes : List (Scope Label B)) (i k : ℕ) → length scopes ≤ i
@@ -55,11 +51,7 @@ margin_missing scopes i k h = rw (drop_all i scopes h) refl
 
 pub labels-reverse : {B : Type 0} (scopes : List (Scope Label B)) → labels (reverse scopes) ≡ reverse (labels scopes)
 labels-reverse [] = refl
-labels-reverse (scope ∷ scopes) =
-    ap labels (reverse_onto scopes scope [])
-    ∙ map-append (λ (inner : Scope Label _). inner.label) (reverse scopes) (scope ∷ [])
-    ∙ ap (λ t. t ++ scope.label ∷ []) (labels-reverse scopes)
-    ∙ sym (reverse_onto (labels scopes) scope.label [])
+labels-reverse (scope ∷ scopes) = grind (arith, reverse_onto, map-append, labels-reverse scopes)
 
 pub outer_labels : {B : Type 0} (scopes : List (Scope Label B)) → reverse (labels (reverse scopes)) ≡ labels scopes
 outer_labels scopes = ap reverse (labels-reverse scopes) ∙ reverse-reverse (labels scopes)

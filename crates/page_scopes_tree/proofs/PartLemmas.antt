@@ -1,8 +1,8 @@
 -- The tree is what is found node by node.
 use Rattle.std.proofs.Common.{◌≡◌, ℕ, zero, suc, ◌+◌, ◌*◌, ◌≤◌, List, [], ◌∷◌, length, drop, refl, ◌∙◌, ap, arith}
 use Rattle.page_scopes_tree.specs.machine.Nestings.{Standing, as_node, as_leaf, as_nothing, Nesting, IsSound}
-use Rattle.page_scopes_tree.specs.machine.Forests.{Ender, still_open, Forest, none, node, Rest, leaf_first, node_first, ended, placed, all_open, tree}
-use Rattle.page_scopes_tree.specs.machine.Parts.{Ahead, over, on, ending, Part, with_leaf, with_node, stand, part, rest_by}
+use Rattle.page_scopes_tree.specs.machine.Forests.{still_open, none, Rest, leaf_first, ended, placed, all_open, tree}
+use Rattle.page_scopes_tree.specs.machine.Parts.{Ahead, over, on, ending, Part, with_leaf, stand, part, rest_by}
 
 -- the tree of what lies ahead
 abbrev rest_of : {M L A F : Type 0} → Nesting M L A F → List L → Ahead M A → Rest L A F
@@ -51,32 +51,11 @@ good-nothing : {M L A F : Type 0} (nests : Nesting M L A F) (m : M) (a : A) (nod
     nests.standing m a n nodes ≡ as_nothing → Good nests nodes (on (nests.mode m a n nodes) acts) p → Good nests nodes (ending zero n m a acts) p
 good-nothing nests m a nodes n acts p h g = record { same = rw h g.same; less = let k = g.less in omega arith; fits = g.fits }
 
-node_around : {L A F : Type 0} (l : L) (a : A) (inner : Forest L A F) (x : Ender A) → Rest L A F → Rest L A F
-node_around l a inner x r = record { here = node l a inner x r.here; outer = r.outer }
-
-good-node : {M L A F : Type 0} (nests : Nesting M L A F) (m : M) (a : A) (l : L) (nodes : List L) (n : ℕ) (acts : List A) (p q : Part M L A F) →
-    nests.standing m a n nodes ≡ as_node l → Good nests (l ∷ nodes) (on (nests.mode m a n nodes) acts) p → Good nests nodes p.ahead q →
-    Good nests nodes (ending zero n m a acts) (with_node l a p q)
-unfolding node_around
-good-node nests m a l [] n acts p q h g k = record {
-  same = rw h (ap (node_first l a) g.same ∙ ap (node_around l a p.forest p.ender) k.same);
-  less = let u = g.less in let v = k.less in omega arith;
-  fits = k.fits;
-}
-good-node nests m a l (other ∷ nodes) n acts p q h g k = record {
-  same = rw h (ap (node_first l a) g.same ∙ ap (node_around l a p.forest p.ender) k.same);
-  less = let u = g.less in let v = k.less in omega arith;
-  fits = k.fits;
-}
-
 good-stand : {M L A F : Type 0} (nests : Nesting M L A F) (k : ℕ) →
     ((nodes : List L) (r : Ahead M A) → size r ≤ k → Fits nodes r → Good nests nodes r (part nests k nodes r)) →
     (m : M) (a : A) (nodes : List L) (n : ℕ) (acts : List A) → 2 * length acts + 1 ≤ k → (st : Standing L F) → nests.standing m a n nodes ≡ st →
     Good nests nodes (ending zero n m a acts) (stand st (nests.mode m a n nodes) a nodes acts (λ open_nodes r. part nests k open_nodes r))
-good-stand nests k more m a nodes n acts h (as_node l) s =
-    let g = more (l ∷ nodes) (on (nests.mode m a n nodes) acts) h tt in
-    let less = g.less in
-    good-node nests m a l nodes n acts _ _ s g (more nodes (part nests k (l ∷ nodes) (on (nests.mode m a n nodes) acts)).ahead (omega arith) g.fits)
+good-stand nests k more m a nodes n acts h (as_node l) s = grind arith
 good-stand nests k more m a nodes n acts h (as_leaf f) s = good-leaf nests m a f nodes n acts _ s (more nodes (on (nests.mode m a n nodes) acts) h tt)
 good-stand nests k more m a nodes n acts h as_nothing s = good-nothing nests m a nodes n acts _ s (more nodes (on (nests.mode m a n nodes) acts) h tt)
 

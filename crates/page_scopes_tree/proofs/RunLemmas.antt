@@ -1,13 +1,13 @@
 -- What the tree gives is what the stack gives, act by act.
-use Rattle.std.proofs.Common.{◌≡◌, ℕ, zero, suc, ◌≤◌, List, [], ◌∷◌, ◌++◌, length, drop, refl, sym, ◌∙◌, ap, subst, append_assoc, arith}
+use Rattle.std.proofs.Common.{◌≡◌, ℕ, zero, suc, ◌≤◌, List, [], ◌∷◌, ◌++◌, length, drop, refl, ap, subst, append_assoc, arith}
 use Rattle.std.proofs.lemmas.List.{append-nil, drop-map}
-use Rattle.page_scopes_tree.specs.machine.Nestings.{Standing, as_node, as_leaf, as_nothing, Nesting, standing_of, mode_of, IsSound}
+use Rattle.page_scopes_tree.specs.machine.Nestings.{Standing, as_node, as_leaf, as_nothing, Nesting, IsSound}
 use Rattle.page_scopes_tree.specs.machine.Forests.{Forest, After, Rest, node_of, ended, placed, all_open, tree}
 use Rattle.page_scopes_tree.specs.declared.nestings.Scope.{Scope}
 use Rattle.page_scopes_tree.specs.laws.Views.{labels}
 use Rattle.page_scopes_tree.specs.Ends.{TreeEdge}
 use Rattle.page_scopes_tree.specs.machine.Layouts.{Layout, scope_of, lay_outer, lay_rest, settled}
-use Rattle.page_scopes_tree.specs.machine.Machines.{ended_items, ended_state, placed_items, placed_state, placed_scopes, count_ended, state_left, step, run_items}
+use Rattle.page_scopes_tree.specs.machine.Machines.{ended_items, ended_state, placed_items, placed_state, placed_scopes, count_ended, step, run_items}
 
 -- the end of the list
 lay_all_open : {L A F S B I : Type 0} (lays : Layout L A F S B I) (scopes : List (Scope L B)) (s : S) →
@@ -23,10 +23,7 @@ lay_ended : {L A F S B I : Type 0} (lays : Layout L A F S B I) (n : ℕ) (a : A)
 lay_ended lays zero a r scopes s h = refl
 lay_ended lays (suc n) a r [] s h = absurd (omega arith)
 lay_ended lays (suc n) a r (scope ∷ scopes) s h =
-    let here = lays.end_items scope.label scope.before a s in
-    append_assoc here _ _
-    ∙ ap (λ t. here ++ t) (lay_ended lays n a r scopes (lays.end_state scope.label scope.before a s) (omega arith))
-    ∙ sym (append_assoc here _ _)
+    grind (arith, append_assoc, lay_ended lays n a r scopes (lays.end_state scope.label scope.before a s) (omega arith))
 
 -- a node that an act opens
 lay_node_of : {L A F S B I : Type 0} (lays : Layout L A F S B I) (l : L) (a : A) (inner : Forest L A F) (outer : List (After L A F))
@@ -43,11 +40,8 @@ lay_placed : {L A F S B I : Type 0} (lays : Layout L A F S B I) (st : Standing L
     lay_rest lays scopes s (placed st a left rest)
     ≡ placed_items lays st a s
     ++ lay_rest lays (placed_scopes lays st a scopes s) (placed_state lays st a s) (rest (labels (placed_scopes lays st a scopes s)))
-lay_placed lays (as_node l) a left rest scopes s h =
-    lay_node_of lays l a (rest (l ∷ left)).here (rest (l ∷ left)).outer scopes s
-    ∙ ap (λ t. lays.begin_items l a s ++ lay_rest lays (scope_of lays l a s ∷ scopes) (lays.begin_state l a s) (rest (l ∷ t))) h
-lay_placed lays (as_leaf f) a left rest scopes s h =
-    append_assoc (lays.leaf_items f s) _ _ ∙ ap (λ t. lays.leaf_items f s ++ lay_rest lays scopes (lays.leaf_state f s) (rest t)) h
+lay_placed lays (as_node l) a left rest scopes s h = grind (arith, lay_node_of)
+lay_placed lays (as_leaf f) a left rest scopes s h = grind (arith, append_assoc)
 lay_placed lays as_nothing a left rest scopes s h = ap (λ t. lay_rest lays scopes s (rest t)) h
 
 pub length-labels : {L B : Type 0} (scopes : List (Scope L B)) → length (labels scopes) ≡ length scopes
@@ -66,20 +60,7 @@ lay_tree : {M L A F S B I : Type 0} (nests : Nesting M L A F) {most : ℕ} (soun
     lay_rest lays d.scopes d.state (tree nests d.mode (labels d.scopes) acts) ≡ run_items nests lays d acts
 lay_tree nests sound lays d [] = lay_all_open lays d.scopes d.state
 lay_tree nests sound lays d (a ∷ acts) =
-    let n = count_ended nests d a in
-    let left = drop n (labels d.scopes) in
-    let st = standing_of nests d.mode a (labels d.scopes) in
-    let scopes = drop n d.scopes in
-    let s = state_left nests lays d a in
-    let rest : List _ → Rest _ _ _ = λ open_nodes. tree nests (mode_of nests d.mode a (labels d.scopes)) open_nodes acts in
-    let first = ended_items lays n a d.scopes d.state in
-    let then = placed_items lays st a s in
-    let more = run_items nests lays (step nests lays d a) acts in
-    lay_ended lays n a (placed st a left rest) d.scopes d.state (ends_fit nests sound d a)
-    ∙ ap (λ t. first ++ t)
-    (lay_placed lays st a left rest scopes s (left_labels n d.scopes)
-    ∙ ap (λ t. then ++ t) (lay_tree nests sound lays (step nests lays d a) acts))
-    ∙ sym (append_assoc first then more)
+    grind (arith, lay_ended, ends_fit, lay_placed, left_labels, append_assoc, lay_tree nests sound lays (step nests lays d a) acts)
 
 pub settled-run : {M L A F S B I : Type 0} (nests : Nesting M L A F) {most : ℕ} (sound : IsSound nests most) (lays : Layout L A F S B I) (d : TreeEdge M L S B) (acts : List A) →
     settled nests lays d acts ≡ run_items nests lays d acts

@@ -1,17 +1,15 @@
 -- An act that is not passed over is a step: what it ends, and then the act itself. Helpers of proofs.
-use Rattle.std.proofs.Common.{◌≡◌, ℕ, Bool, true, false, List, ◌++◌, drop, refl, sym, ap, subst, ◌∙◌, append_assoc, if◌then◌else◌}
+use Rattle.std.proofs.Common.{◌≡◌, ℕ, Bool, true, false, List, drop, refl, sym, subst, append_assoc, if◌then◌else◌, arith}
 use Rattle.page_core_base.specs.laws.Views.{Came}
 use Rattle.page_core_base.specs.Rows.{Item}
 use Rattle.page_scopes_tree.proofs.RunLemmas.{left_labels}
 use Rattle.page_scopes_tree.specs.Ends.{TreeEdge, act_ends}
-use Rattle.page_scopes_tree.specs.laws.Views.{labels, Step, does}
-use Rattle.page_scopes_tree.specs.machine.Layouts.{Layout}
-use Rattle.page_scopes_tree.specs.machine.Machines.{ended_items, ended_state, placed_items, placed_scopes, placed_state, step_items}
-use Rattle.page_scopes_tree.specs.machine.Nestings.{Standing, as_nothing}
+use Rattle.page_scopes_tree.specs.laws.Views.{labels, does}
+use Rattle.page_scopes_tree.specs.machine.Machines.{ended_items, ended_state, placed_items, placed_scopes, placed_state}
 use Rattle.page_scopes_tree.specs.declared.nestings.Scope.{Scope}
 use Rattle.page_sets_lines.specs.declared.events.Event.{Event}
 use Rattle.page_scopes_tree.specs.machine.Frames.{Tables, framed}
-use Rattle.page_scopes_tree.specs.machine.Nests.{Fact, scopes_nesting, standing_by, step_ends, step_standing}
+use Rattle.page_scopes_tree.specs.machine.Nests.{standing_by}
 use Rattle.page_scopes_tree.specs.machine.Stacks.{TakesStep}
 use Rattle.page_scopes_tree.specs.Placements.{act_placement, act_skips, is_passed_over}
 use Rattle.page_scopes_tree.specs.declared.acts.Act.{Act}
@@ -35,29 +33,4 @@ pub step-taken : {P O S B : Type 0} (left : P → O → List Item → Type 0) (t
     → last ≡ placed_scopes (framed tables) (standing_by act (act_placement act n (labels mid))) (does act) mid t
     → TakesStep left tables (does act) (record { mode = skips; scopes = inner; state = s }) out (record { mode = next; scopes = last; state = u }) given
 step-taken {P} {O} {S} {B} left tables act skips next inner mid last s t u out ended given n goes count cut skip state came placed put kept =
-    let lays : Layout Label Step Fact S B Item = framed tables in
-    let stands = standing_by act (act_placement act n (labels mid)) in
-    let ends : step_ends skips (does act) (labels inner) ≡ n = second_of (is_passed_over skips act) 0 (act_ends act (labels inner)) goes ∙ sym count in
-    let remaining : drop n (labels inner) ≡ labels mid = left_labels n inner ∙ ap labels (sym cut) in
-    let standing : step_standing skips (does act) n (drop n (labels inner)) ≡ stands =
-    second_of (is_passed_over skips act) as_nothing (standing_by act (act_placement act n (drop n (labels inner)))) goes
-    ∙ ap (λ nodes. standing_by act (act_placement act n nodes)) remaining in
-    let of_ends = λ (m : ℕ). step_standing skips (does act) m (drop m (labels inner)) in
-    let items : step_items scopes_nesting lays (record { mode = skips; scopes = inner; state = s }) (does act)
-    ≡ ended_items lays n (does act) inner s ++ placed_items lays stands (does act) t =
-    ap (λ (m : ℕ). ended_items lays m (does act) inner s ++ placed_items lays (of_ends m) (does act) (ended_state lays m (does act) inner s)) ends
-    ∙ ap (λ (st : Standing Label Fact). ended_items lays n (does act) inner s ++ placed_items lays st (does act) (ended_state lays n (does act) inner s)) standing
-    ∙ ap (λ (x : S). ended_items lays n (does act) inner s ++ placed_items lays stands (does act) x) (sym state) in
-    record {
-      came = λ plan rest h. placed plan rest (came plan (placed_items lays stands (does act) t ++ rest)
-          (subst (λ all. left plan out all) (ap (λ all. all ++ rest) items ∙ append_assoc (ended_items lays n (does act) inner s) (placed_items lays stands (does act) t) rest) h));
-      edge = sym (edge_of _ next _ last _ u
-          (ap (λ (m : ℕ). act_skips skips act m (drop m (labels inner))) ends ∙ ap (act_skips skips act n) remaining ∙ sym skip)
-          (ap (λ (m : ℕ). placed_scopes lays (of_ends m) (does act) (drop m inner) (ended_state lays m (does act) inner s)) ends
-          ∙ ap (λ (st : Standing Label Fact). placed_scopes lays st (does act) (drop n inner) (ended_state lays n (does act) inner s)) standing
-          ∙ ap (λ (x : S). placed_scopes lays stands (does act) (drop n inner) x) (sym state)
-          ∙ ap (λ (xs : List (Scope Label B)). placed_scopes lays stands (does act) xs t) (sym cut) ∙ sym kept)
-          (ap (λ (m : ℕ). placed_state lays (of_ends m) (does act) (ended_state lays m (does act) inner s)) ends
-          ∙ ap (λ (st : Standing Label Fact). placed_state lays st (does act) (ended_state lays n (does act) inner s)) standing
-          ∙ ap (λ (x : S). placed_state lays stands (does act) x) (sym state) ∙ sym put));
-    }
+    grind (arith, second_of, left_labels, append_assoc, edge_of)

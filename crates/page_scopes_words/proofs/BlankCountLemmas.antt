@@ -2,8 +2,6 @@
 use Rattle.std.proofs.Common.{ℕ, ◌≤◌, ◌/◌, ℤ, pos, negsuc, List, arith}
 use Rattle.std.proofs.Math.Nat.{min-le_right}
 use Rattle.page_core_numbers.specs.Columns.{blanks_in}
-use Rattle.page_core_numbers.specs.Expressions.{expression_of}
-use Rattle.page_core_numbers.specs.declared.scales.Scale.TheVariants.{Em}
 use Rattle.page_core_numbers.proofs.ColumnLemmas.{blanks-columns}
 use Rattle.page_scopes_words.specs.Words.{blank_count}
 
@@ -12,8 +10,4 @@ blanks-within (pos n) = min-le_right (n / 24) 1000
 blanks-within (negsuc n) = omega arith
 
 pub count-within : (expression : List ℕ) → blank_count expression ≤ 1000
-count-within expression =
-    let n = blanks_in (expression_of Em expression).value in
-    let is = blanks-columns n in
-    let within : n ≤ 1000 = blanks-within (expression_of Em expression).value in
-    omega (arith, is, within)
+count-within expression = grind (arith, blanks-columns, blanks-within)

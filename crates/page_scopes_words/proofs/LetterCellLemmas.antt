@@ -1,9 +1,10 @@
 -- Letters as bytes and fonts, each in its place.
-use Rattle.std.proofs.Common.{◌≡◌, ℕ, zero, suc, ◌+◌, ◌-◌, ◌≤◌, ◌<◌, true, List, [], ◌∷◌, ◌++◌, length, take, drop, replicate, refl, ap, ap₂, sym, ◌∙◌, append_assoc, length-append, arith}
+use Rattle.std.proofs.Common.{◌≡◌, ℕ, zero, suc, ◌+◌, ◌-◌, ◌≤◌, ◌<◌, true, List, [], ◌∷◌, ◌++◌, length, take, drop, replicate, refl, ap, sym, ◌∙◌, append_assoc, length-append, arith}
 use Rattle.std.proofs.Math.Seq.{take-append-add, take-append_seam}
 use Rattle.std.proofs.lemmas.Bool.{and_parts}
 use Rattle.std.proofs.lemmas.List.{length-drop, length-replicate, length-take-le, take-append-le, take-replicate, take-take}
 use Rattle.std.proofs.lemmas.List.Folds.{list_all-append}
+use Rattle.std.proofs.lemmas.Grind.{common_steps}
 use Rattle.page_core_base.specs.laws.Views.{cells_in, is_printable, is_printable_ascii, joined_cells, lettered_cells}
 use Rattle.page_core_base.specs.declared.cells.Cell.{Cell}
 use Rattle.page_core_base.specs.declared.cells.Font.{Font}
@@ -34,18 +35,10 @@ in-font [] font = refl
 in-font (b ∷ bytes) font = ap (λ cells. record { c = b; font = font } ∷ cells) (in-font bytes font)
 
 put-front : {A : Type 0} (old added : List A) (start : ℕ) → start ≤ length old → take (start + length added) (put_at old start added) ≡ take start old ++ added
-put-front old added start within =
-    let rest = drop (start + length added) old in
-    let len : length (take start old ++ added) ≡ start + length added = length-append (take start old) added ∙ ap (λ (n : ℕ). n + length added) (length-take-le start old within) in
-    ap₂ take (sym len) (sym (append_assoc (take start old) added rest)) ∙ take-append_seam (take start old ++ added) rest
+put-front old added start within = grind (arith, common_steps, length-append, length-take-le, append_assoc, take-append_seam)
 
 pub put_size : {A : Type 0} (old added : List A) (start : ℕ) → start + length added ≤ length old → length (put_at old start added) ≡ length old
-put_size old added start room =
-    let front = length-take-le start old (omega (arith, room)) in
-    let rest = length-append added (drop (start + length added) old) in
-    let whole = length-append (take start old) (added ++ drop (start + length added) old) in
-    let back = length-drop (start + length added) old in
-    omega (arith, front, rest, whole, back, room)
+put_size old added start room = grind (arith, length-take-le, length-append, length-drop)
 
 pub put_len : (fonts : List Font) (start n : ℕ) (font : Font) → start + n ≤ length fonts → length (put_at fonts start (replicate n font)) ≡ length fonts
 put_len fonts start n font room = put_size fonts (replicate n font) start (omega (arith, length-replicate n font, room))
@@ -53,26 +46,13 @@ put_len fonts start n font room = put_size fonts (replicate n font) start (omega
 -- a count of one font that is put, perhaps with more of it
 pub fonts_put : (fonts : List Font) (start count n : ℕ) (font : Font) → count ≤ n → start + n ≤ length fonts
     → take (start + count) (put_at fonts start (replicate n font)) ≡ take start fonts ++ replicate count font
-fonts_put fonts start count n font least room =
-    let front = take start fonts in
-    let all : List Font = replicate n font in
-    let rest = all ++ drop (start + length all) fonts in
-    let size : length front ≡ start = length-take-le start fonts (omega (arith, room)) in
-    let many : count ≤ length all = omega (arith, least, length-replicate n font) in
-    ap (λ (k : ℕ). take (k + count) (front ++ rest)) (sym size) ∙ take-append-add front rest count
-    ∙ ap (λ (l : List Font). front ++ l) (take-append-le count all (drop (start + length all) fonts) many ∙ take-replicate count n font least)
+fonts_put fonts start count n font least room = grind (arith, length-take-le, length-replicate, take-append-add, take-append-le, take-replicate)
 
 -- some letters, and those that are put after them, of which these are the fonts
 pub letters_put : (text : List ℕ) (fonts after : List Font) (start : ℕ) (font : Font) (bytes : List ℕ) → start + length bytes ≤ length text → length fonts ≡ length text
     → take (start + length bytes) after ≡ take start fonts ++ replicate (length bytes) font
     → take (start + length bytes) (cells_in (put_at text start bytes) after) ≡ take start (cells_in text fonts) ++ letters_in font bytes
-letters_put text fonts after start font bytes room same are =
-    let all : List Font = replicate (length bytes) font in
-    let front : length (take start fonts) ≡ length (take start text) = length-take-le start fonts (omega (arith, same, room)) ∙ sym (length-take-le start text (omega (arith, room))) in
-    in-take (start + length bytes) (put_at text start bytes) after
-    ∙ ap₂ cells_in (put-front text bytes start (omega (arith, room))) are
-    ∙ in-append (take start text) bytes (take start fonts) all front
-    ∙ ap₂ (λ (a b : List Cell). a ++ b) (sym (in-take start text fonts)) (in-font bytes font)
+letters_put text fonts after start font bytes room same are = grind (arith, length-take-le, in-take, put-front, in-append, in-font)
 
 pub letters_len : (text : List ℕ) (fonts : List Font) (n : ℕ) → n ≤ length text → length fonts ≡ length text → length (take n (cells_in text fonts)) ≡ n
 letters_len text fonts n within same = length-take-le n (cells_in text fonts) (omega (arith, in-length text fonts same, within))
@@ -86,11 +66,6 @@ printable_first (suc n) (b ∷ bytes) h =
     let parts = and_parts (is_printable b) (is_printable_ascii bytes) h in
     rw parts.0 (printable_first n bytes parts.1)
 
-pub printable_rest : (n : ℕ) (bytes : List ℕ) → is_printable_ascii bytes ≡ true → is_printable_ascii (drop n bytes) ≡ true
-printable_rest zero bytes h = h
-printable_rest (suc n) [] h = refl
-printable_rest (suc n) (b ∷ bytes) h = printable_rest n bytes (and_parts (is_printable b) (is_printable_ascii bytes) h).1
-
 -- the first letters, fewer than before
 pub printable_cut : (n m : ℕ) (text : List ℕ) → n ≤ m → is_printable_ascii (take m text) ≡ true → is_printable_ascii (take n text) ≡ true
 printable_cut n m text le h = rw (take-take n m text le) at (printable_first n (take m text) h)
@@ -98,14 +73,7 @@ printable_cut n m text le h = rw (take-take n m text le) at (printable_first n (
 -- letters that are put after others, perhaps with more of them
 pub printable_put : (text added : List ℕ) (start count : ℕ) → start ≤ length text → count ≤ length added → is_printable_ascii (take start text) ≡ true
     → is_printable_ascii (take count added) ≡ true → is_printable_ascii (take (start + count) (put_at text start added)) ≡ true
-printable_put text added start count within many before h =
-    let front = take start text in
-    let rest = added ++ drop (start + length added) text in
-    let size : length front ≡ start = length-take-le start text within in
-    let are : take (start + count) (front ++ rest) ≡ front ++ take count added =
-    ap (λ (k : ℕ). take (k + count) (front ++ rest)) (sym size) ∙ take-append-add front rest count
-    ∙ ap (λ (l : List ℕ). front ++ l) (take-append-le count added (drop (start + length added) text) many) in
-    rw (are, list_all-append is_printable front (take count added), before) h
+printable_put text added start count within many before h = grind (arith, length-take-le, take-append-add, take-append-le, list_all-append)
 
 -- ---- letters without the first blank
 
@@ -133,9 +101,7 @@ rest_joined text fonts len words some e =
     ∙ ap (λ (n : ℕ). drop 1 (take n (cells_in text fonts))) size ∙ joined (take len (cells_in text fonts)) words e
 
 pub rest_printable : (len : ℕ) (text : List ℕ) → 0 < len → is_printable_ascii (take len text) ≡ true → is_printable_ascii (take (len - 1) (drop 1 text)) ≡ true
-rest_printable len text some h =
-    let size : suc (len - 1) ≡ len = omega (arith, some) in
-    rw (rest_first (len - 1) text, size) (printable_rest 1 (take len text) h)
+rest_printable len text some h = grind arith
 
 -- letters in one font
 pub font_joined : (font : Font) (text : List ℕ) (words : List (List (Piece (List ℕ)))) → record { c = 32; font = R } ∷ letters_in font text ≡ lettered_cells words

@@ -16,22 +16,6 @@ use Rattle.page_scopes_words.specs.machine.RunEnds.{GoesOn, ends_run, ends_run_a
 
 -- ---- lanes
 
-or_lanes : (a b : Bool) → bit_or (cond a 255 0) (cond b 255 0) ≡ cond (a || b) 255 0
-or_lanes true true = refl
-or_lanes true false = refl
-or_lanes false true = refl
-or_lanes false false = refl
-
-and_lanes : (a b : Bool) → bit_and (cond a 255 0) (cond b 255 0) ≡ cond (a && b) 255 0
-and_lanes true true = refl
-and_lanes true false = refl
-and_lanes false true = refl
-and_lanes false false = refl
-
-top_lane : (a : Bool) → top 7 (cond a 255 0) ≡ a
-top_lane true = refl
-top_lane false = refl
-
 -- what is computed of each lane of hyphens, of bytes that are not printable ASCII, of others but for blanks, and of blanks
 abbrev pub hyphen_lane : ℕ → ℕ
 hyphen_lane x = cond (eqb x 45) 255 0
@@ -45,36 +29,12 @@ other_lane mark x = bit_or (strange_lane x) (bit_or (cond (eqb x 92) 255 0) (con
 abbrev pub blank_lane : ℕ → ℕ
 blank_lane x = cond (eqb x 32) 255 0
 
-tests_lane : (h l a b m k n : Bool)
-    → top 7 (bit_or (cond h 255 0) (bit_or (bit_or (bit_or (cond l 255 0) (cond a 255 0)) (bit_or (cond b 255 0) (cond m 255 0))) (bit_and (cond k 255 0) (cond n 255 0))))
-    ≡ (h || (((l || a) || (b || m)) || (k && n)))
-tests_lane h l a b m k n =
-    rw (
-      or_lanes l a,
-      or_lanes b m,
-      or_lanes (l || a) (b || m),
-      and_lanes k n,
-      or_lanes ((l || a) || (b || m)) (k && n),
-      or_lanes h (((l || a) || (b || m)) || (k && n)),
-    )
-    (top_lane (h || (((l || a) || (b || m)) || (k && n))))
-
 pub strange : (x : ℕ) → (ltb x 32 || ltb 126 x) ≡ not (is_printable x)
 strange x = grind (arith, nat_tests)
 
-or_same : (b : Bool) → (b || b) ≡ (b || false)
-or_same true = refl
-or_same false = refl
-
-marked : (quoted : Bool) (mark x : ℕ) → mark ≡ (if quoted then 34 else 92) → (x == 92 || x == mark) ≡ (x == 92 || (quoted && x == 34))
-marked true mark x e = rw e refl
-marked false mark x e = rw e (or_same (x == 92))
-
 lane : (quoted : Bool) (mark x y : ℕ) → mark ≡ (if quoted then 34 else 92)
     → top 7 (bit_or (hyphen_lane x) (bit_or (other_lane mark x) (bit_and (blank_lane x) (blank_lane y)))) ≡ ends_run quoted x y
-lane quoted mark x y e =
-    tests_lane (x == 45) (ltb x 32) (ltb 126 x) (x == 92) (x == mark) (x == 32) (y == 32)
-    ∙ ap₂ (λ (s t : Bool). x == 45 || ((s || t) || (x == 32 && y == 32))) (strange x) (marked quoted mark x e)
+lane quoted mark x y e = grind (arith, nat_tests)
 
 lanes : (quoted : Bool) (mark : ℕ) → mark ≡ (if quoted then 34 else 92) → (v w : List ℕ)
     → map (top 7) (zip2 bit_or (map hyphen_lane v) (zip2 bit_or (map (other_lane mark) v) (zip2 bit_and (map blank_lane v) (map blank_lane w)))) ≡ zip2 (ends_run quoted) v w

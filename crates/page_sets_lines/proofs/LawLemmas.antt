@@ -1,8 +1,7 @@
 -- The laws of macro sets, event by event: helpers of proofs.
-use Rattle.std.proofs.Common.{◌≡◌, ℕ, ◌+◌, ◌-◌, ◌≤◌, ◌<◌, ◌==◌, Bool, true, false, List, [], ◌∷◌, length, drop, refl, arith, length-drop, Option, None, Some}
+use Rattle.std.proofs.Common.{◌≡◌, ℕ, ◌+◌, ◌-◌, ◌≤◌, Bool, true, false, List, [], ◌∷◌, length, drop, refl, arith, length-drop, Option, None, Some}
 use Rattle.std.proofs.lemmas.List.Sums.{prefix_len-le-length}
 use Rattle.std.proofs.Math.Seq.{take-length}
-use Rattle.std.proofs.lemmas.Bool.Decides.{nat_tests}
 use Rattle.page_core_base.specs.Texts.{TakenLine}
 use Rattle.page_roff_syntax.specs.declared.quotes.Argument.{Argument}
 use Rattle.page_roff_syntax.specs.LineForms.{is_white}
@@ -93,14 +92,5 @@ line_order _ text = tt
 
 -- ---- a line with a name
 
-start_bytes : (text : List ℕ) → 1 ≤ length text → 1 ≤ before_name text
-start_bytes [] h = absurd (omega arith)
-start_bytes (control ∷ bytes) h = omega arith
-
 pub named_bytes : (line : TakenLine) → is_nameless line ≡ false → (2 ≤ name_end line) × (name_end line ≤ length line.text)
-named_bytes line h =
-    let n : (before_name line.text == name_end line) ≡ false = h in
-    let w = end_within line in
-    let some : before_name line.text < name_end line = grind (arith, nat_tests) in
-    let s = start_bytes line.text (omega (arith, w, some)) in
-    (omega (arith, s, some), w)
+named_bytes line h = grind arith

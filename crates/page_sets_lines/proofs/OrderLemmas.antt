@@ -36,22 +36,19 @@ later_one _ events front arguments after h k m = (front ++ after, ap (λ l. fron
 pub takes_later : (events : List (Event (List ℕ))) (front arguments : List (Argument (List ℕ)))
     → TakesInOrder events arguments → TakesInOrder events (front ++ arguments)
 takes_later [] front arguments h = tt
-takes_later (event ∷ events) front arguments h =
-    later_one event.kind events front arguments h.0 h.1 h.2 (takes_later events front h.0 h.2)
+takes_later (event ∷ events) front arguments h = grind (arith, later_one, takes_later events front h.0 h.2)
 
 -- ---- with more arguments behind
 
 more_behind : (kind : EventKind (List ℕ)) (arguments after behind : List (Argument (List ℕ)))
     → Takes kind arguments after → Takes kind (arguments ++ behind) (after ++ behind)
-more_behind (kinds.Word word) arguments after behind h =
-    record { before = h.before; split = ap (λ l. l ++ behind) h.split ∙ append_assoc h.before (word.arg ∷ after) behind }
+more_behind (kinds.Word word) arguments after behind h = grind (arith, append_assoc)
 more_behind _ arguments after behind h = ap (λ l. l ++ behind) h
 
 pub TakesInOrder-append : (events more : List (Event (List ℕ))) (arguments behind : List (Argument (List ℕ)))
     → TakesInOrder events arguments → TakesInOrder more behind → TakesInOrder (events ++ more) (arguments ++ behind)
 TakesInOrder-append [] more arguments behind h k = takes_later more arguments behind k
-TakesInOrder-append (event ∷ events) more arguments behind h k =
-    (h.0 ++ behind, more_behind event.kind arguments h.0 behind h.1, TakesInOrder-append events more h.0 behind h.2 k)
+TakesInOrder-append (event ∷ events) more arguments behind h k = grind (arith, more_behind, TakesInOrder-append events more h.0 behind h.2 k)
 
 -- ---- order
 
@@ -59,9 +56,7 @@ taken_from : (line : List ℕ) (argument : Argument (List ℕ)) (after before : 
     → ArgumentsFrom line from (before ++ (argument ∷ after))
     → (from ≤ argument.column) × ArgumentsFrom line (argument.column + length argument.text) after
 taken_from line argument after [] from h = (h.0, h.2)
-taken_from line argument after (first ∷ before) from h =
-    let k = taken_from line argument after before (first.column + length first.text) h.2 in
-    (omega (arith, h.0, k.0), k.1)
+taken_from line argument after (first ∷ before) from h = grind (arith, taken_from line argument after before (first.column + length first.text) h.2)
 
 order_one : (line : List ℕ) (from : ℕ) (kind : EventKind (List ℕ)) (arguments after : List (Argument (List ℕ)))
     → ArgumentsFrom line from arguments → Takes kind arguments after → BeginsFrom from kind × ArgumentsFrom line (past from kind) after

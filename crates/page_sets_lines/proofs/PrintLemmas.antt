@@ -36,11 +36,7 @@ more_events more most words events h p = record { each = p.each; order = p.order
 -- a text of the macro's own, or a change
 pub own_first : {IsSo : Event (List ℕ) → Type 0} (more most : ℕ) (words : List (Argument (List ℕ))) (event : Event (List ℕ)) (events : List (Event (List ℕ)))
     → is_word event.kind ≡ false → IsSo event → 1 + more ≤ most → Prints IsSo more words events → Prints IsSo most words (event ∷ events)
-own_first more most words event events w h m p = record {
-  each = (h, p.each);
-  order = (words, nothing_taken event.kind words w, p.order);
-  few = let few = p.few in omega (arith, few, m);
-}
+own_first more most words event events w h m p = grind arith
 
 -- alone
 pub own_alone : {IsSo : Event (List ℕ) → Type 0} (most : ℕ) (words : List (Argument (List ℕ))) (event : Event (List ℕ)) → is_word event.kind ≡ false → IsSo event → 1 ≤ most

@@ -9,11 +9,7 @@ use Rattle.page_sets_lines.specs.Lines.{arguments_after, open_quote}
 use Rattle.page_sets_lines.specs.laws.Views.{is_quote}
 
 after_byte : (b : ℕ) (bs : List ℕ) → list_any is_quote (b ∷ bs) ≡ false → ((b == 34) ≡ false) × (list_any is_quote bs ≡ false)
-after_byte b bs h =
-    elim (cases_Bool (b == 34)) [
-      | inl t ↦ let k = rw t at h in absurd (cc)
-      | inr t ↦ (t, rw t at h)
-    ]
+after_byte b bs h = grind arith
 
 after_bytes : (n : ℕ) (text : List ℕ) → list_any is_quote text ≡ false → list_any is_quote (drop n text) ≡ false
 after_bytes zero text h = h
@@ -45,6 +41,4 @@ none_open start printed text h = none_in (length (drop start text)) printed (sta
 -- the same of a slice up to the text's end
 pub rest_open : (start printed : ℕ) (text : List ℕ) → list_any is_quote (take (length text - start) (drop start text)) ≡ false
     → open_quote printed (arguments_after start text) ≡ None
-rest_open start printed text h =
-    let l : length text - start ≡ length (drop start text) = omega (arith, length-drop start text) in
-    none_open start printed text (rw (l, take-length (drop start text)) at h)
+rest_open start printed text h = grind (arith, length-drop, none_open, take-length)

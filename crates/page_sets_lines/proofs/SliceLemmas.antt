@@ -2,7 +2,7 @@
 use Rattle.std.proofs.Common.{◌≡◌, ℕ, ◌≤◌, List, [], ◌∷◌, length, Option, None, Some, arith}
 use Rattle.page_core_base.specs.declared.limits.TheConstants.{LINE}
 use Rattle.page_roff_syntax.specs.declared.quotes.Argument.{Argument}
-use Rattle.page_sets_lines.specs.laws.Views.{ArgumentFits, BlockCloserFits, BlockOpenerFits, CloserFits, KindFits, GivenFits, LeafFits, IsShort, OpenerFits, RestIsShort, StepFits}
+use Rattle.page_sets_lines.specs.laws.Views.{ArgumentFits, BlockCloserFits, BlockOpenerFits, CloserFits, KindFits, GivenFits, LeafFits, IsShort, OpenerFits, StepFits}
 use Rattle.page_sets_lines.specs.laws.Sets.{AreSlices, BlockClosesSlices, BlockOpensSlices, ClosesSlices, HasSlices, IsArgument, IsArgumentIfGiven, IsPart, LeavesSlices, OpensSlices, StepsSlices}
 use Rattle.page_sets_lines.specs.declared.blocks.BlockCloser.{BlockCloser}
 use Rattle.page_sets_lines.specs.declared.blocks.BlockCloser.TheVariants as block_closers
@@ -21,10 +21,7 @@ use Rattle.page_sets_lines.specs.declared.openers.Opener.{Opener}
 use Rattle.page_sets_lines.specs.declared.openers.Opener.TheVariants as openers
 
 pub argument_fits : (line : List ℕ) (argument : Argument (List ℕ)) → length line ≤ LINE → IsArgument line argument → ArgumentFits argument
-argument_fits line argument short slice =
-    let within = slice.slice.within in
-    let column = slice.column in
-    record { short = omega (arith, within, column); room = omega (arith, within, column) }
+argument_fits line argument short slice = grind arith
 
 given_fits : (line : List ℕ) (argument : Option (Argument (List ℕ))) → length line ≤ LINE → IsArgumentIfGiven line argument → GivenFits argument
 given_fits line None short slice = tt
@@ -72,22 +69,11 @@ kind_fits line (kinds.Close closer) short slices = closer_fits line closer short
 kind_fits line (kinds.Leaf leaf) short slices = leaf_fits line leaf short slices
 kind_fits line _ short slices = tt
 
-leaf_short : (line : List ℕ) (leaf : Leaf (List ℕ)) → length line ≤ LINE → HasSlices line (kinds.Leaf leaf) → RestIsShort (kinds.Leaf leaf)
-leaf_short line (leaves.Prologue name rest) short slices = part_fits line rest short slices
-leaf_short line _ short slices = tt
-
-rest_short : (line : List ℕ) (kind : EventKind (List ℕ)) → length line ≤ LINE → HasSlices line kind → RestIsShort kind
-rest_short line (kinds.Leaf leaf) short slices = leaf_short line leaf short slices
-rest_short line _ short slices = tt
-
 -- the first event of a line
 pub first_short : (line : List ℕ) (events : List (Event (List ℕ))) (event : Event (List ℕ)) (others : List (Event (List ℕ)))
     → length line ≤ LINE → AreSlices line events → events ≡ event ∷ others → IsShort event
 first_short line [] event others short slices is = let no : ⊥ = cc in absurd no
-first_short line (e ∷ es) event others short slices is =
-    let same : e ≡ event = cc in
-    let fits : IsShort e = (kind_fits line e.kind short slices.0, rest_short line e.kind short slices.0) in
-    rw same at fits
+first_short line (e ∷ es) event others short slices is = grind arith
 
 pub first_fits : (line : List ℕ) (events : List (Event (List ℕ))) (event : Event (List ℕ)) (others : List (Event (List ℕ)))
     → length line ≤ LINE → AreSlices line events → events ≡ event ∷ others → KindFits event.kind

@@ -1,6 +1,7 @@
 -- A text has at most half as many arguments as bytes, and one more: helpers of proofs.
-use Rattle.std.proofs.Common.{◌≡◌, ℕ, zero, suc, ◌+◌, ◌-◌, ◌*◌, ◌≤◌, ◌==◌, min, Bool, true, false, List, [], ◌∷◌, length, drop, refl, arith, inl, inr, length-drop}
+use Rattle.std.proofs.Common.{◌≡◌, ℕ, zero, suc, ◌+◌, ◌-◌, ◌*◌, ◌≤◌, min, Bool, true, false, List, [], ◌∷◌, length, drop, refl, arith, inl, inr, length-drop}
 use Rattle.std.proofs.lemmas.Bool.{cases_Bool}
+use Rattle.std.proofs.lemmas.Bool.Decides.{nat_tests}
 use Rattle.page_roff_syntax.specs.Arguments.{is_blank, bare_len, quoted_len, argument_len, first_arguments, arguments}
 use Rattle.page_roff_syntax.proofs.ArgumentLemmas.{bare_some, bare_within}
 use Rattle.page_sets_mdoc_lines.specs.laws.Views.{arguments_after}
@@ -20,15 +21,7 @@ two_off n b c cs = let e : 2 + n ≡ suc (suc n) = omega arith in rw e refl
 bare_parted : (text : List ℕ) → is_parted (drop (bare_len text) text) ≡ true
 bare_parted [] = refl
 bare_parted (b ∷ []) = elim (cases_Bool (is_blank b)) [ inl t ↦ rw t t | inr t ↦ rw t refl ]
-bare_parted (b ∷ c ∷ cs) =
-    elim (cases_Bool (is_blank b)) [
-      | inl t ↦ rw t t
-      | inr t ↦
-          elim (cases_Bool (b == 92)) [
-            | inl s ↦ rw (t, s, two_off (bare_len cs) b c cs) (bare_parted cs)
-            | inr s ↦ rw (t, s, one_off (bare_len (c ∷ cs)) b (c ∷ cs)) (bare_parted (c ∷ cs))
-          ]
-    ]
+bare_parted (b ∷ c ∷ cs) = grind (arith, two_off, one_off, bare_parted cs, bare_parted (c ∷ cs))
 
 -- the arguments of a text, and of one that begins with a blank
 abbrev IsFew : ℕ → ℕ → List ℕ → Type 0
@@ -36,40 +29,20 @@ IsFew n column text =
     (2 * length (first_arguments n column text) ≤ length text + 1)
     × (is_parted text ≡ true → 2 * length (first_arguments n column text) ≤ length text)
 
-none_left : (n column : ℕ) (text : List ℕ) → length text ≤ 0 → length (first_arguments n column text) ≡ 0
-none_left zero column text h = refl
-none_left (suc n) column [] h = refl
-none_left (suc n) column (b ∷ bs) h = absurd (omega arith)
-
 past_bare : (n column b : ℕ) (bs : List ℕ) → is_blank b ≡ false
     → IsFew n column (drop (bare_len (b ∷ bs)) (b ∷ bs))
     → 2 * length (first_arguments n column (drop (bare_len (b ∷ bs)) (b ∷ bs))) + 2 ≤ length (b ∷ bs) + 1
-past_bare n column b bs t h =
-    let few = h.1 (bare_parted (b ∷ bs)) in
-    let l = length-drop (bare_len (b ∷ bs)) (b ∷ bs) in
-    let some = bare_some b bs t in
-    let within = bare_within (b ∷ bs) in
-    omega (arith, few, l, some, within)
+past_bare n column b bs t h = grind (arith, nat_tests, bare_parted, length-drop, bare_some, bare_within)
 
 past_quoted : (n column len b : ℕ) (bs : List ℕ) → len ≡ min (length (b ∷ bs)) (quoted_len bs + 2) → IsFew n column (drop len (b ∷ bs))
     → 2 * length (first_arguments n column (drop len (b ∷ bs))) + 2 ≤ length (b ∷ bs) + 1
-past_quoted n column len b [] e h =
-    let l = length-drop len (b ∷ []) in
-    let none = none_left n column (drop len (b ∷ [])) (omega (arith, l, e)) in
-    omega (arith, none)
-past_quoted n column len b (c ∷ cs) e h =
-    let l = length-drop len (b ∷ c ∷ cs) in
-    let few = h.0 in
-    omega (arith, few, l, e)
+past_quoted n column len b [] e h = grind arith
+past_quoted n column len b (c ∷ cs) e h = grind (arith, length-drop)
 
 past_argument : (n column b : ℕ) (bs : List ℕ) → is_blank b ≡ false
     → IsFew n column (drop (argument_len (b ∷ bs)) (b ∷ bs))
     → 2 * length (first_arguments n column (drop (argument_len (b ∷ bs)) (b ∷ bs))) + 2 ≤ length (b ∷ bs) + 1
-past_argument n column b bs t h =
-    elim (cases_Bool (b == 34)) [
-      | inl s ↦ let k = rw s at h in rw s (past_quoted n column _ b bs refl k)
-      | inr s ↦ let k = rw s at h in rw s (past_bare n column b bs t k)
-    ]
+past_argument n column b bs t h = grind (arith, past_quoted, past_bare)
 
 is_few : (n column : ℕ) (text : List ℕ) → IsFew n column text
 is_few zero column text = (omega arith, λ h. omega arith)

@@ -1,11 +1,11 @@
 -- The words of a macro, and what comes after them in its line: helpers of proofs.
-use Rattle.std.proofs.Common.{◌≡◌, ℕ, Bool, true, false, List, [], ◌∷◌, ◌++◌, length, take, drop, refl, inl, inr, ap, ◌∙◌, Option, None, Some}
+use Rattle.std.proofs.Common.{◌≡◌, ℕ, Bool, true, false, List, [], ◌∷◌, ◌++◌, length, take, drop, refl, inl, inr, ap, Option, None, Some, arith}
 use Rattle.std.specs.List.{list_all}
 use Rattle.std.proofs.lemmas.Bool.{cases_Bool}
 use Rattle.page_roff_syntax.specs.declared.quotes.Argument.{Argument}
 use Rattle.page_sets_mdoc_lines.specs.declared.macros.Inline.{Inline}
 use Rattle.page_sets_mdoc_lines.specs.Parts.{word_call, is_closing, LineParts, parts, if_parsed, takes, taken_first, part_first, call_first, tail_alone}
-use Rattle.page_sets_mdoc_lines.specs.laws.Views.{rest_parts, as_list, calls_arguments, parts_arguments}
+use Rattle.page_sets_mdoc_lines.specs.laws.Views.{rest_parts, calls_arguments, parts_arguments}
 
 words_by : (word : Argument (List ℕ)) (words : List (Argument (List ℕ))) (p : LineParts) (begun : Inline → LineParts) (call : Option Inline)
     → take (length p.words) words ≡ p.words
@@ -16,11 +16,7 @@ words_by word words p begun (Some inline) h = refl
 pub words_taken : (parsed : Bool) (arguments : List (Argument (List ℕ)))
     → take (length (parts None parsed arguments).words) arguments ≡ (parts None parsed arguments).words
 words_taken parsed [] = refl
-words_taken parsed (word ∷ words) =
-    elim (cases_Bool (list_all is_closing (word ∷ words))) [
-      | inl t ↦ rw t refl
-      | inr t ↦ rw t (words_by word words (parts None parsed words) (λ inline. parts (Some inline) true words) (if_parsed parsed (word_call word)) (words_taken parsed words))
-    ]
+words_taken parsed (word ∷ words) = grind (arith, words_by, words_taken parsed words)
 
 -- at the end of its words a macro's line goes on with the next call, or with the last delimiters
 rest_tail : (arguments : List (Argument (List ℕ))) → list_all is_closing arguments ≡ true → parts None true arguments ≡ rest_parts (tail_alone arguments)
@@ -39,11 +35,7 @@ rest_by false word words n (Some inline) e h = let no_call : ⊥ = cc in absurd 
 pub rest_goes_on : (parsed : Bool) (arguments : List (Argument (List ℕ)))
     → parts None true (drop (length (parts None parsed arguments).words) arguments) ≡ rest_parts (parts None parsed arguments)
 rest_goes_on parsed [] = refl
-rest_goes_on parsed (word ∷ words) =
-    elim (cases_Bool (list_all is_closing (word ∷ words))) [
-      | inl t ↦ rw t (rest_tail (word ∷ words) t)
-      | inr t ↦ rw t (rest_by parsed word words t (if_parsed parsed (word_call word)) refl (rest_goes_on parsed words))
-    ]
+rest_goes_on parsed (word ∷ words) = grind (arith, rest_tail, rest_by, rest_goes_on parsed words)
 
 -- ---- each argument once
 
@@ -59,11 +51,7 @@ none_by word p begun (Some inline) h = refl
 
 pub none_taken : (parsed : Bool) (arguments : List (Argument (List ℕ))) → (parts None parsed arguments).taken ≡ None
 none_taken parsed [] = refl
-none_taken parsed (word ∷ words) =
-    elim (cases_Bool (list_all is_closing (word ∷ words))) [
-      | inl t ↦ rw t refl
-      | inr t ↦ rw t (none_by word (parts None parsed words) (λ inline. parts (Some inline) true words) (if_parsed parsed (word_call word)) (none_taken parsed words))
-    ]
+none_taken parsed (word ∷ words) = grind (arith, none_by, none_taken parsed words)
 
 abbrev after_taken : LineParts → List (Argument (List ℕ))
 after_taken p = p.words ++ (calls_arguments p.calls ++ p.tail)
@@ -77,10 +65,7 @@ whole_taken word words p n h = ap (λ l. word ∷ l) (all_taken p words n h)
 
 whole_call : (inline : Inline) (word : Argument (List ℕ)) (words : List (Argument (List ℕ))) (p : LineParts) → parts_arguments p ≡ words
     → parts_arguments (call_first inline word p) ≡ word ∷ words
-whole_call inline word words p h =
-    ap (λ l. word ∷ l) (joined (as_list p.taken ++ p.words) (calls_arguments p.calls) p.tail
-    ∙ joined (as_list p.taken) p.words (calls_arguments p.calls ++ p.tail)
-    ∙ h)
+whole_call inline word words p h = grind (arith, joined)
 
 whole_by : (word : Argument (List ℕ)) (words : List (Argument (List ℕ))) (p : LineParts) (begun : Inline → LineParts) (call : Option Inline)
     → p.taken ≡ None → parts_arguments p ≡ words → ((inline : Inline) → parts_arguments (begun inline) ≡ words)

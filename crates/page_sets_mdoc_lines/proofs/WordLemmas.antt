@@ -1,5 +1,5 @@
 -- The words of a macro: helpers of proofs.
-use Rattle.std.proofs.Common.{◌≡◌, ℕ, zero, suc, ◌+◌, ◌-◌, ◌≤◌, ◌==◌, Bool, true, false, ◌&&◌, List, [], ◌∷◌, length, take, drop, refl, sym, ap, ◌∙◌, inl, inr, add-one, arith, Option, None, Some, if◌then◌else◌}
+use Rattle.std.proofs.Common.{◌≡◌, ℕ, zero, suc, ◌+◌, ◌-◌, ◌≤◌, Bool, true, false, List, [], ◌∷◌, length, take, drop, refl, sym, ap, ◌∙◌, inl, inr, add-one, arith, Option, None, Some, if◌then◌else◌}
 use Rattle.std.specs.List.{list_any}
 use Rattle.std.specs.Option.{option_or}
 use Rattle.std.proofs.lemmas.Bool.{both_ways, cases_Bool}
@@ -68,8 +68,7 @@ front_by closing argument n len false h = omega (arith, h)
 
 pub front_within : (closing : Argument (List ℕ) → Bool) (words : List (Argument (List ℕ))) → front_len closing words ≤ length words
 front_within closing [] = omega arith
-front_within closing (word ∷ words) =
-    front_by closing word (front_len closing words) (length words) (front_len closing words == 0 && closing word) (front_within closing words)
+front_within closing (word ∷ words) = grind (arith, front_by, front_within closing words)
 
 pub inside_are : {A : Type 0} → (n count : ℕ) (words : List A) → n ≤ count → take n words ≡ take n (take count words)
 inside_are n count words h = sym (take-take n count words h)
@@ -103,11 +102,7 @@ pub are_known : (parsed : Bool) (others after : List (Argument (List ℕ))) (spa
     → (take span.inside others ≡ inside (take span.words others))
     × (take (span.words - span.inside) after ≡ outside (take span.words others))
     × (span.has_real ≡ list_any is_real (take span.words others))
-are_known parsed others after span e a =
-    let p = parts None parsed others in
-    let w = words_taken parsed others in
-    let h = front_within is_closing p.words in
-    rw (a, e, w) (inside_known (front_len is_closing p.words) p.words others h w, outside_known (front_len is_closing p.words) p.words others h w, refl)
+are_known parsed others after span e a = grind (arith, words_taken, front_within, inside_known, outside_known)
 
 -- ---- the parts of a line whose first macro takes a word
 

@@ -23,8 +23,7 @@ closing_by false false n h = rw (← h) (grind (arith, nat_tests))
 
 pub all_closing : (closing : Argument (List ℕ) → Bool) (arguments : List (Argument (List ℕ))) → list_all closing arguments ≡ (front_len closing arguments == 0)
 all_closing closing [] = refl
-all_closing closing (argument ∷ arguments) =
-    closing_by (closing argument) (list_all closing arguments) (front_len closing arguments) (all_closing closing arguments)
+all_closing closing (argument ∷ arguments) = grind (arith, closing_by, all_closing closing arguments)
 
 less_by : (test : Bool) (n : ℕ) (closing : Bool) → (n == 0) ≡ test → n ≡ (if test && closing then 0 else 1 + n) - 1
 less_by true n true e = grind (arith, nat_tests)
@@ -78,16 +77,7 @@ words_from : (closing call real : Argument (List ℕ) → Bool) (arguments : Lis
     → (span_from closing call real span arguments).words ≡ span.words + length (generated_words closing call arguments)
 words_from closing call real [] span = omega arith
 words_from closing call real (argument ∷ arguments) span =
-    elim (cases_Bool (list_all closing (argument ∷ arguments))) [
-      | inl t ↦ rw t (omega arith)
-      | inr t ↦
-          elim (cases_Bool (call argument)) [
-            | inl s ↦ rw (t, s) (omega arith)
-            | inr s ↦
-                let k = words_from closing call real arguments (one_word span (closing argument) (real argument)) in
-                rw (t, s) (omega (arith, k))
-          ]
-    ]
+    grind (arith, words_from closing call real arguments (one_word span (closing argument) (real argument)))
 
 pub inside_by : (test closing : Bool) (n inside words : ℕ) → (n == 0) ≡ test
     → (if test then (if closing then inside else words + 1) else words + 1 + n)
@@ -104,17 +94,7 @@ inside_from : (closing call real : Argument (List ℕ) → Bool) (arguments : Li
     → (span_from closing call real span arguments).inside ≡ inside_after closing span (generated_words closing call arguments)
 inside_from closing call real [] span = refl
 inside_from closing call real (argument ∷ arguments) span =
-    elim (cases_Bool (list_all closing (argument ∷ arguments))) [
-      | inl t ↦ rw t refl
-      | inr t ↦
-          elim (cases_Bool (call argument)) [
-            | inl s ↦ rw (t, s) refl
-            | inr s ↦
-                let n = front_len closing (generated_words closing call arguments) in
-                rw (t, s) (inside_from closing call real arguments (one_word span (closing argument) (real argument))
-                ∙ inside_by (n == 0) (closing argument) n span.inside span.words refl)
-          ]
-    ]
+    grind (arith, inside_by, inside_from closing call real arguments (one_word span (closing argument) (real argument)))
 
 pub or_none : (a : Bool) → a ≡ (a || false)
 or_none true = refl
@@ -132,44 +112,24 @@ real_from : (closing call real : Argument (List ℕ) → Bool) (arguments : List
     → (span_from closing call real span arguments).has_real ≡ (span.has_real || list_any real (generated_words closing call arguments))
 real_from closing call real [] span = or_none span.has_real
 real_from closing call real (argument ∷ arguments) span =
-    elim (cases_Bool (list_all closing (argument ∷ arguments))) [
-      | inl t ↦ rw t (or_none span.has_real)
-      | inr t ↦
-          elim (cases_Bool (call argument)) [
-            | inl s ↦ rw (t, s) (or_none span.has_real)
-            | inr s ↦
-                rw (t, s) (real_from closing call real arguments (one_word span (closing argument) (real argument))
-                ∙ or_more span.has_real (real argument) (list_any real (generated_words closing call arguments)))
-          ]
-    ]
+    grind (arith, or_none, or_more, real_from closing call real arguments (one_word span (closing argument) (real argument)))
 
 follows_from : (closing call real : Argument (List ℕ) → Bool) (arguments : List (Argument (List ℕ))) (span : WordSpan)
     → span.follows ≡ false → (span_from closing call real span arguments).follows ≡ calls_follow closing call arguments
 follows_from closing call real [] span h = h
 follows_from closing call real (argument ∷ arguments) span h =
-    elim (cases_Bool (list_all closing (argument ∷ arguments))) [
-      | inl t ↦ rw t h
-      | inr t ↦
-          elim (cases_Bool (call argument)) [
-            | inl s ↦ rw (t, s) refl
-            | inr s ↦ rw (t, s) (follows_from closing call real arguments (one_word span (closing argument) (real argument)) h)
-          ]
-    ]
+    grind (arith, follows_from closing call real arguments (one_word span (closing argument) (real argument)) h)
 
 pub words_is : (closing call real : Argument (List ℕ) → Bool) (arguments : List (Argument (List ℕ)))
     → (span_from closing call real no_words arguments).words ≡ length (generated_words closing call arguments)
 words_is closing call real arguments = let k = words_from closing call real arguments no_words in omega (arith, k)
 
 pub none_inside : (n : ℕ) → (if n == 0 then 0 else 0 + n) ≡ n
-none_inside n = elim (cases_Bool (n == 0)) [
-  | inl t ↦ rw t (grind (arith, nat_tests))
-  | inr t ↦ rw t (omega arith)
-]
+none_inside n = grind arith
 
 pub inside_is : (closing call real : Argument (List ℕ) → Bool) (arguments : List (Argument (List ℕ)))
     → (span_from closing call real no_words arguments).inside ≡ front_len closing (generated_words closing call arguments)
-inside_is closing call real arguments =
-    inside_from closing call real arguments no_words ∙ none_inside (front_len closing (generated_words closing call arguments))
+inside_is closing call real arguments = grind (arith, inside_from, none_inside)
 
 pub real_is : (closing call real : Argument (List ℕ) → Bool) (arguments : List (Argument (List ℕ)))
     → (span_from closing call real no_words arguments).has_real ≡ list_any real (generated_words closing call arguments)
@@ -227,15 +187,7 @@ passed_word : (closing call real : Argument (List ℕ) → Bool) (argument : Arg
     ≡ span_from closing call real (one_word span (closing argument) (real argument)) arguments)
     → passed closing call real (one_word span (closing argument) (real argument)) arguments
     ≡ span_from closing call real (one_word span (closing argument) (real argument)) arguments
-passed_word closing call real argument arguments span apart h more =
-    elim (cases_Bool (list_all closing arguments)) [
-      | inl t ↦
-          let c : closing argument ≡ false = and_false (closing argument) (list_all closing arguments) h t in
-          let last = one_word span (closing argument) (real argument) in
-          let cut : cut_words last ≡ last = rw c refl in
-          passed_tail closing call real arguments last apart t ∙ cut ∙ sym (stopped closing call real arguments last t)
-      | inr t ↦ more t
-    ]
+passed_word closing call real argument arguments span apart h more = grind (arith, and_false, passed_tail, stopped)
 
 passed_from : (closing call real : Argument (List ℕ) → Bool) (arguments : List (Argument (List ℕ))) (span : WordSpan) → AreApart closing call real
     → list_all closing arguments ≡ false → passed closing call real span arguments ≡ span_from closing call real span arguments
@@ -251,11 +203,7 @@ passed_from closing call real (argument ∷ arguments) span apart h =
 
 pub passed_is : (closing call real : Argument (List ℕ) → Bool) (arguments : List (Argument (List ℕ))) → AreApart closing call real
     → passed closing call real no_words arguments ≡ span_from closing call real no_words arguments
-passed_is closing call real arguments apart =
-    elim (cases_Bool (list_all closing arguments)) [
-      | inl t ↦ passed_tail closing call real arguments no_words apart t ∙ sym (stopped closing call real arguments no_words t)
-      | inr t ↦ passed_from closing call real arguments no_words apart t
-    ]
+passed_is closing call real arguments apart = grind (arith, passed_tail, stopped, passed_from)
 
 -- ---- one step of the pass
 
@@ -289,20 +237,12 @@ own_by : (parsed : Bool) (argument : Argument (List ℕ)) (arguments : List (Arg
     ≡ (part_first call argument (parts None parsed arguments) (λ inline. parts (Some inline) true arguments)).words)
     × ((if is_call parsed argument then true else calls_follow is_closing (is_call parsed) arguments)
     ≡ has_calls (part_first call argument (parts None parsed arguments) (λ inline. parts (Some inline) true arguments)).calls)
-own_by parsed argument arguments None e h =
-    let t : is_call parsed argument ≡ false = ap is_something e in
-    (rw t (ap (λ words. argument ∷ words) h.0), rw t h.1)
-own_by parsed argument arguments (Some inline) e h =
-    let t : is_call parsed argument ≡ true = ap is_something e in
-    (rw t refl, rw t refl)
+own_by parsed argument arguments None e h = grind arith
+own_by parsed argument arguments (Some inline) e h = grind arith
 
 own_are : (parsed : Bool) (arguments : List (Argument (List ℕ))) → IsOwn parsed arguments (parts None parsed arguments)
 own_are parsed [] = (refl, refl)
-own_are parsed (argument ∷ arguments) =
-    elim (cases_Bool (list_all is_closing (argument ∷ arguments))) [
-      | inl t ↦ rw t (refl, refl)
-      | inr t ↦ rw t (own_by parsed argument arguments (if_parsed parsed (word_call argument)) refl (own_are parsed arguments))
-    ]
+own_are parsed (argument ∷ arguments) = grind (arith, own_by, own_are parsed arguments)
 
 abbrev span_with : ℕ → ℕ → Bool → Bool → WordSpan
 span_with words inside has_real follows = record { words = words; inside = inside; has_real = has_real; follows = follows }
@@ -312,15 +252,7 @@ span_by w i w' i' r f r' f' a b c d = rw (a, b, c, d) refl
 
 pub span_is : (parsed : Bool) (arguments : List (Argument (List ℕ)))
     → span_from is_closing (is_call parsed) is_real no_words arguments ≡ span_of (parts None parsed arguments)
-span_is parsed arguments =
-    let own = own_are parsed arguments in
-    let p = parts None parsed arguments in
-    let found = span_from is_closing (is_call parsed) is_real no_words arguments in
-    span_by found.words found.inside (length p.words) (front_len is_closing p.words) found.has_real found.follows (list_any is_real p.words) (has_calls p.calls)
-    (words_is is_closing (is_call parsed) is_real arguments ∙ ap (λ words. length words) own.0)
-    (inside_is is_closing (is_call parsed) is_real arguments ∙ ap (λ words. front_len is_closing words) own.0)
-    (real_is is_closing (is_call parsed) is_real arguments ∙ ap (λ words. list_any is_real words) own.0)
-    (follows_is is_closing (is_call parsed) is_real arguments ∙ own.1)
+span_is parsed arguments = grind (arith, own_are, is_call, span_by, words_is, inside_is, real_is, follows_is)
 
 -- ---- closing delimiters call nothing
 
@@ -344,11 +276,7 @@ no_delimiter name calls = ap (option_map (λ row. row.1)) (not_found (λ n. is_n
 
 -- a delimiter that closes is no name of a macro
 no_name : (name : List ℕ) → closes (delimiter_of name) ≡ true → called name ≡ None
-no_name name h =
-    elim (cases_Bool (is_none (called name))) [
-      | inl nothing ↦ none_of (called name) nothing
-      | inr calls ↦ absurd (both_ways _ (ap closes (no_delimiter name calls)) h)
-    ]
+no_name name h = grind (arith, none_of, both_ways, no_delimiter)
 
 no_call_by : (quoted : Bool) (text : List ℕ) → closes (if quoted then None else delimiter_of text) ≡ true
     → (if quoted then None else called text) ≡ None
@@ -370,6 +298,4 @@ closing_real word h = real_by (word_delimiter word) h
 
 pub pass_is : (parsed : Bool) (arguments : List (Argument (List ℕ)))
     → passed is_closing (is_call parsed) is_real no_words arguments ≡ span_of (parts None parsed arguments)
-pass_is parsed arguments =
-    passed_is is_closing (is_call parsed) is_real arguments (record { no_call = closing_calls parsed; no_real = closing_real })
-    ∙ span_is parsed arguments
+pass_is parsed arguments = grind (arith, passed_is, is_call, closing_calls, closing_real, span_is)
