@@ -119,8 +119,8 @@ fn give_front<'a, O: PieceOut>(
     ensures { MatchOption result (Came O.left out.old [] out.new)
         (λ found. GivesFront style pen.now text.now found.0 found.1.now (Came O.left) out.old out.new) }
 {
-    let len = going_len(style.is_quoted, text);
-    if len == text.len() && len <= ROOM && is_in_font(pen.fonts.value.font, text) {
+    let fits = text.len() <= ROOM && is_in_font(pen.fonts.value.font, text);
+    if fits && text[0] != b'\\' && going_len(style.is_quoted, text) == text.len() {
         return give_whole(out, style, pen, text);
     }
     give_read(out, style, pen, text)
