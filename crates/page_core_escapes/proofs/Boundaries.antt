@@ -1,11 +1,11 @@
 -- An escape ends where a character ends.
-use Rattle.std.proofs.Common.{◌≡◌, ℕ, zero, suc, ◌+◌, ◌<◌, Bool, true, false, cond, eqb, nat_eq, nat_lt, nat_le, ◌&&◌, List, [], ◌∷◌, ◌++◌, length, take, drop, get_or, Option, Some, None, option_map, refl, sym, ap, subst, ◌∙◌, inl, inr, arith, position, codes, add-zero}
+use Rattle.std.proofs.Common.{◌≡◌, ℕ, suc, ◌+◌, ◌<◌, true, false, eqb, nat_eq, List, [], ◌∷◌, ◌++◌, length, take, drop, get_or, Option, Some, None, option_map, refl, sym, ap, subst, ◌∙◌, arith, position, codes, add-zero}
 use Rattle.std.specs.Option.{option_and_then}
-use Rattle.std.specs.List.{starts_with, list_all}
+use Rattle.std.specs.List.{starts_with}
 use Rattle.std.specs.Str.{IsUtf8, IsCharBoundary}
 use Rattle.std.proofs.Math.Utf8.{encode}
-use Rattle.std.proofs.lemmas.Bool.{cond_both, and_parts, or_cases, eqb-true, leb-true, ltb-true}
-use Rattle.std.proofs.lemmas.Bool.Decides.{Decides-eqb}
+use Rattle.std.proofs.lemmas.Bool.{cond_both, eqb-true}
+use Rattle.std.proofs.lemmas.Bool.Decides.{Decides-eqb, nat_tests}
 use Rattle.std.proofs.lemmas.Slice.Eq.{starts_is}
 use Rattle.std.proofs.lemmas.List.{drop-drop, length-drop, length-append, get_or-drop}
 use Rattle.std.proofs.lemmas.List.Quantifiers.{position-Some}
@@ -14,7 +14,7 @@ use Rattle.page_core_escapes.specs.declared.letters.Shape.{Shape}
 use Rattle.page_core_escapes.specs.declared.letters.Shape.TheVariants.{Alone, Glyph, Name, Size, Quoted}
 use Rattle.page_core_escapes.specs.declared.extents.Extent.{Extent}
 use Rattle.page_core_escapes.specs.declared.extents.Extent.TheVariants.{Whole, QuotedFrom}
-use Rattle.page_core_escapes.specs.Lengths.{is_among, is_digit, letter_of, is_sign, after_sign, begins_size, shape_of, character_len, two_characters_len, bracketed_len, name_len, has_two_digits, number_len, sign_len, number_extent, extent_by, extent_of, quoted_len, extent_len, escape_len_by, content_len_within, content_len, escape_len}
+use Rattle.page_core_escapes.specs.Lengths.{is_among, letter_of, is_sign, after_sign, begins_size, shape_of, character_len, two_characters_len, bracketed_len, name_len, has_two_digits, number_len, sign_len, number_extent, extent_by, extent_of, quoted_len, extent_len, escape_len_by, content_len_within, content_len, escape_len}
 use Rattle.page_core_escapes.proofs.LetterLemmas.{follows, shape_ascii}
 use Rattle.page_core_escapes.proofs.Characters.{CutsAt, CutsAt-add, CutsAt-ascii, Taken, character_len-taken, begins_with}
 
@@ -26,19 +26,6 @@ start_cut t utf8 = record { within = omega arith; utf8 = utf8 }
 past_ascii : (b : ℕ) (bs : List ℕ) (n : ℕ) → IsUtf8 (b ∷ bs) → b < 128 → (IsUtf8 bs → CutsAt bs n) → CutsAt (b ∷ bs) (1 + n)
 past_ascii b bs n utf8 ascii then =
     CutsAt-add {t = b ∷ bs} {n = 1} (record { within = omega arith; utf8 = CutsAt-ascii b bs utf8 ascii }) (then (CutsAt-ascii b bs utf8 ascii))
-
--- a character that is among some of ASCII is one
-pub among_ascii : (key : ℕ) (keys : List ℕ) → list_all (λ k. nat_lt k 128) keys ≡ true → is_among key keys ≡ true → key < 128
-among_ascii key [] all e = cc
-among_ascii key (k ∷ ks) all e =
-    let parts = and_parts (nat_lt k 128) (list_all (λ k. nat_lt k 128) ks) all in
-    elim (or_cases (eqb key k) (is_among key ks) e) [
-      | inl same ↦ let is = eqb-true key k same in let low = ltb-true k 128 parts.0 in omega arith
-      | inr later ↦ among_ascii key ks parts.1 later
-    ]
-
-digit_ascii : (b : ℕ) → is_digit b ≡ true → b < 128
-digit_ascii b e = let parts = and_parts (nat_le 0x30 b) (nat_le b 0x39) e in let high = leb-true b 0x39 parts.1 in omega arith
 
 -- ---- names
 
@@ -71,9 +58,6 @@ bracketed_cut t utf8 n e = go (position (λ b. eqb b 0x5D) t) (λ k is. position
         let bracket = eqb-true (get_or t k 0) 0x5D here.1 in
         subst (CutsAt t) is (record { within = let lt = here.0 in omega arith; utf8 = IsUtf8-drop t (k + 1) utf8 (IsCharBoundary-after_ascii t k utf8 here.0 (omega arith)) })
 
-none_cut : (t : List ℕ) → CutsAtSome t None
-none_cut t n e = cc
-
 -- one byte of ASCII, then a length
 one_more : (b : ℕ) (bs : List ℕ) (o : Option ℕ) → IsUtf8 (b ∷ bs) → b < 128 → (IsUtf8 bs → CutsAtSome bs o) → CutsAtSome (b ∷ bs) (option_map (λ k. k + 1) o)
 one_more b bs None utf8 ascii next n e = cc
@@ -82,37 +66,28 @@ one_more b bs (Some k) utf8 ascii next n e =
     let same : 1 + k ≡ n = omega arith in
     subst (CutsAt (b ∷ bs)) same (past_ascii b bs k utf8 ascii (λ rest. next rest k refl))
 
--- a length by cases
-by_cases : (t : List ℕ) (c : Bool) (x y : Option ℕ) → (c ≡ true → CutsAtSome t x) → (c ≡ false → CutsAtSome t y) → CutsAtSome t (cond c x y)
-by_cases t true x y here there = here refl
-by_cases t false x y here there = there refl
-
 name_cut : (t : List ℕ) → IsUtf8 t → CutsAtSome t (name_len false t)
-name_cut [] utf8 = none_cut []
+name_cut [] utf8 = λ n e. cc
 name_cut (b ∷ bs) utf8 =
-    by_cases (b ∷ bs) (eqb b 0x28) _ _
+    cond_both (eqb b 0x28) _ _ (CutsAtSome (b ∷ bs))
     (λ is. let paren = eqb-true b 0x28 is in one_more b bs (two_characters_len false bs) utf8 (omega arith) (two_characters_cut bs))
     (λ _.
-    by_cases (b ∷ bs) (eqb b 0x5B) _ _
+    cond_both (eqb b 0x5B) _ _ (CutsAtSome (b ∷ bs))
     (λ is. let bracket = eqb-true b 0x5B is in one_more b bs (bracketed_len bs) utf8 (omega arith) (bracketed_cut bs))
     (λ _. character_cut (b ∷ bs) utf8))
 
 -- ---- sizes
 
 two_digits_cut : (t : List ℕ) → IsUtf8 t → has_two_digits t ≡ true → CutsAt t 2
-two_digits_cut [] utf8 e = cc
-two_digits_cut (b ∷ []) utf8 e = cc
 two_digits_cut (b ∷ d ∷ ds) utf8 e =
-    let tens = and_parts (nat_le 0x31 b && nat_le b 0x33) (is_digit d) e in
-    let first = and_parts (nat_le 0x31 b) (nat_le b 0x33) tens.0 in
-    let low = leb-true b 0x33 first.1 in
-    past_ascii b (d ∷ ds) 1 utf8 (omega arith) (λ rest. past_ascii d ds 0 rest (digit_ascii d tens.1) (start_cut ds))
+    past_ascii b (d ∷ ds) 1 utf8 (grind (arith, nat_tests, e)) (λ rest. past_ascii d ds 0 rest (grind (arith, nat_tests, e)) (start_cut ds))
+two_digits_cut _ utf8 e = cc
 
 number_cut : (b : ℕ) (bs : List ℕ) → IsUtf8 (b ∷ bs) → b < 128 → CutsAtSome (b ∷ bs) (number_len false (b ∷ bs))
 number_cut b bs utf8 ascii =
-    by_cases (b ∷ bs) (is_among b (codes "([")) _ _ (λ _. name_cut (b ∷ bs) utf8)
+    cond_both (is_among b (codes "([")) _ _ (CutsAtSome (b ∷ bs)) (λ _. name_cut (b ∷ bs) utf8)
     (λ _.
-    by_cases (b ∷ bs) (has_two_digits (b ∷ bs)) _ _
+    cond_both (has_two_digits (b ∷ bs)) _ _ (CutsAtSome (b ∷ bs))
     (λ is n e. let same : 2 ≡ n = cc in subst (CutsAt (b ∷ bs)) same (two_digits_cut (b ∷ bs) utf8 is))
     (λ _ n e. let same : 1 ≡ n = cc in subst (CutsAt (b ∷ bs)) same (past_ascii b bs 0 utf8 ascii (start_cut bs))))
 
@@ -120,27 +95,15 @@ sign_cut : (t : List ℕ) → IsUtf8 t → CutsAt t (sign_len t)
 sign_cut [] utf8 = start_cut [] utf8
 sign_cut (b ∷ bs) utf8 =
     cond_both (is_sign b) 1 0 (CutsAt (b ∷ bs))
-    (λ is.
-    elim (or_cases (eqb b 0x2B) (eqb b 0x2D) is) [
-      | inl plus ↦ let same = eqb-true b 0x2B plus in past_ascii b bs 0 utf8 (omega arith) (start_cut bs)
-      | inr minus ↦ let same = eqb-true b 0x2D minus in past_ascii b bs 0 utf8 (omega arith) (start_cut bs)
-    ])
+    (λ is. past_ascii b bs 0 utf8 (grind (arith, nat_tests, is)) (start_cut bs))
     (λ _. start_cut (b ∷ bs) utf8)
 
 drop-sign_len : (t : List ℕ) → drop (sign_len t) t ≡ after_sign t
 drop-sign_len [] = refl
-drop-sign_len (b ∷ bs) = go (is_sign b)
-  where
-    go : (c : Bool) → drop (cond c 1 0) (b ∷ bs) ≡ cond c bs (b ∷ bs)
-    go true = refl
-    go false = refl
+drop-sign_len (b ∷ bs) = cond_both (is_sign b) 1 0 (λ n. drop n (b ∷ bs) ≡ after_sign (b ∷ bs)) (λ is. rw is refl) (λ no. rw no refl)
 
 size_ascii : (b : ℕ) (bs : List ℕ) → begins_size (b ∷ bs) ≡ true → b < 128
-size_ascii b bs e =
-    elim (or_cases (is_among b (codes "(['")) (is_digit b) e) [
-      | inl mark ↦ among_ascii b (codes "(['") refl mark
-      | inr digit ↦ digit_ascii b digit
-    ]
+size_ascii b bs e = grind (arith, nat_tests, e)
 
 -- ---- forms
 
@@ -220,8 +183,6 @@ ends_after d t f (Some n) ends = ends_later d t n (f n) (ends n)
 
 content_len_within-ends : (steps : ℕ) (d t : List ℕ) → EndsAtDelimiter d t (content_len_within false steps d t)
 unfolding content_len_within
-content_len_within-ends zero d t = λ k e. cc
-content_len_within-ends (suc n) d [] = λ k e. cc
 content_len_within-ends (suc n) d (b ∷ bs) =
     let t = b ∷ bs in
     cond_both (eqb b 0x5C) (option_and_then (λ n'. option_map (λ k. n' + k) (content_len_within false n d (drop n' t))) (escape_len_by false (content_len_within false n) t)) _ (EndsAtDelimiter d t)
@@ -230,6 +191,7 @@ content_len_within-ends (suc n) d (b ∷ bs) =
     cond_both (starts_with nat_eq t d) (Some 0) (option_map (λ k. 1 + k) (content_len_within false n d bs)) (EndsAtDelimiter d t)
     (λ is k e. let same : 0 ≡ k = cc in ap (λ k. starts_with nat_eq (drop k t) d) (sym same) ∙ is)
     (λ _. ends_later d t 1 (content_len_within false n d bs) (content_len_within-ends n d bs)))
+content_len_within-ends _ d _ = λ k e. cc
 
 content_len-ends : (d t : List ℕ) → EndsAtDelimiter d t (content_len false d t)
 unfolding content_len

@@ -3,6 +3,7 @@ use Rattle.std.proofs.Common.{◌≡◌, ℕ, suc, ◌+◌, ◌/◌, ◌<◌, �
 use Rattle.std.specs.Str.{IsUtf8, IsCharBoundary, continuation_len}
 use Rattle.std.specs.Char.{IsScalar}
 use Rattle.std.proofs.Math.Utf8.{encode, encodes, scalars, scalar}
+use Rattle.std.proofs.lemmas.Bool.Decides.{nat_tests}
 use Rattle.std.proofs.lemmas.Bool.{cases_lt, cond-true, cond-false, and_parts, lt-ltb, le-ltb, le-leb}
 use Rattle.std.proofs.lemmas.List.{drop-drop, length-drop, length-append, drop_at, take_at}
 use Rattle.std.proofs.lemmas.Str.{IsUtf8-drop, IsCharBoundary-after_ascii, IsCharBoundary-from_drop}
@@ -18,33 +19,20 @@ pub record BeginsWith (c : ℕ) : Type 0 where
   pub count : continuation_len lead ≡ length others
   pub starts : 128 ≤ lead → 192 ≤ lead
 
--- how many bytes follow, by the range of the first
-one : (b : ℕ) → b < 128 → continuation_len b ≡ 0
-one b low = cond-true _ _ _ (lt-ltb b 128 low)
-
-two : (b : ℕ) → 128 ≤ b → b < 224 → continuation_len b ≡ 1
-two b low high = cond-false _ _ _ (le-ltb b 128 low) ∙ cond-true _ _ _ (lt-ltb b 224 high)
-
-three : (b : ℕ) → 224 ≤ b → b < 240 → continuation_len b ≡ 2
-three b low high = cond-false _ _ _ (le-ltb b 128 (omega arith)) ∙ cond-false _ _ _ (le-ltb b 224 low) ∙ cond-true _ _ _ (lt-ltb b 240 high)
-
-four : (b : ℕ) → 240 ≤ b → continuation_len b ≡ 3
-four b low = cond-false _ _ _ (le-ltb b 128 (omega arith)) ∙ cond-false _ _ _ (le-ltb b 224 (omega arith)) ∙ cond-false _ _ _ (le-ltb b 240 low)
-
 pub begins_with : (c : ℕ) → BeginsWith c
 unfolding encode
 begins_with c =
     elim (cases_lt c 128) [
-      | inl ascii ↦ record { lead = c; others = []; is = cond-true _ _ _ (lt-ltb c 128 ascii); count = one c ascii; starts = λ h. absurd (omega arith) }
+      | inl ascii ↦ record { lead = c; others = []; is = cond-true _ _ _ (lt-ltb c 128 ascii); count = grind (arith, nat_tests, ascii); starts = λ h. absurd (omega arith) }
       | inr above ↦
           let past = cond-false _ _ _ (le-ltb c 128 above) in
           elim (cases_lt c 2048) [
-            | inl below ↦ record { lead = 192 + c / 64; others = _; is = past ∙ cond-true _ _ _ (lt-ltb c 2048 below); count = two (192 + c / 64) (omega arith) (omega arith); starts = λ h. omega arith }
+            | inl below ↦ record { lead = 192 + c / 64; others = _; is = past ∙ cond-true _ _ _ (lt-ltb c 2048 below); count = grind (arith, nat_tests); starts = λ h. omega arith }
             | inr above ↦
                 let past = past ∙ cond-false _ _ _ (le-ltb c 2048 above) in
                 elim (cases_lt c 65536) [
-                  | inl below ↦ record { lead = 224 + c / 4096; others = _; is = past ∙ cond-true _ _ _ (lt-ltb c 65536 below); count = three (224 + c / 4096) (omega arith) (omega arith); starts = λ h. omega arith }
-                  | inr above ↦ record { lead = 240 + c / 262144; others = _; is = past ∙ cond-false _ _ _ (le-ltb c 65536 above); count = four (240 + c / 262144) (omega arith); starts = λ h. omega arith }
+                  | inl below ↦ record { lead = 224 + c / 4096; others = _; is = past ∙ cond-true _ _ _ (lt-ltb c 65536 below); count = grind (arith, nat_tests); starts = λ h. omega arith }
+                  | inr above ↦ record { lead = 240 + c / 262144; others = _; is = past ∙ cond-false _ _ _ (le-ltb c 65536 above); count = grind (arith, nat_tests); starts = λ h. omega arith }
                 ]
           ]
     ]

@@ -1,5 +1,5 @@
 -- The length of an argument's content doesn't hang on the number of steps, where there are enough of them.
-use Rattle.std.proofs.Common.{◌≡◌, ℕ, zero, suc, ◌+◌, ◌<◌, ◌≤◌, Bool, cond, eqb, nat_eq, nat_le, List, [], ◌∷◌, length, take, drop, Option, Some, None, option_map, refl, sym, ap, ap₂, ◌∙◌, arith, inl, inr, length-drop}
+use Rattle.std.proofs.Common.{◌≡◌, ℕ, suc, ◌+◌, ◌<◌, ◌≤◌, Bool, cond, eqb, nat_eq, nat_le, List, [], ◌∷◌, length, take, drop, Option, Some, None, option_map, refl, sym, ap, ap₂, ◌∙◌, arith, inl, inr, length-drop}
 use Rattle.std.specs.Option.{option_and_then}
 use Rattle.std.specs.List.{starts_with}
 use Rattle.std.specs.Str.{continuation_len}
@@ -32,10 +32,6 @@ module _ (pairs : Bool) where
   written_len-fits t m e = grind (arith, nat_tests)
 
   -- ---- an escape takes bytes
-
-  whole_from : (before : ℕ) (o : Option ℕ) (n : ℕ) → 0 < before → option_map (λ k. Whole (before + k)) o ≡ Some (Whole n) → 0 < n
-  whole_from before None n some e = cc
-  whole_from before (Some k) n some e = let is : before + k ≡ n = cc in omega arith
 
   whole_after : (after : ℕ) (o : Option ℕ) (n : ℕ) → 0 < after → option_map (λ k. Whole (k + after)) o ≡ Some (Whole n) → 0 < n
   whole_after after None n some e = cc
@@ -125,12 +121,11 @@ module _ (pairs : Bool) where
   content_len_within-next n d (b ∷ bs) = refl
 
   content_len_within-same : (n m : ℕ) (d t : List ℕ) → length t < n → length t < m → content_len_within pairs n d t ≡ content_len_within pairs m d t
-  content_len_within-same zero m d t below above = absurd (omega arith)
-  content_len_within-same (suc n) zero d t below above = absurd (omega arith)
   content_len_within-same (suc n) (suc m) d t below above =
       content_len_within-next n d t
       ∙ next_content-same (content_len_within pairs n) (content_len_within pairs m) d t (λ e u lt. content_len_within-same n m e u (omega arith) (omega arith))
       ∙ sym (content_len_within-next m d t)
+  content_len_within-same _ _ d t below above = absurd (omega arith)
 
   -- what is read first, and the rest by the same definition
   pub content_len-next : (d t : List ℕ) → content_len pairs d t ≡ next_content (content_len pairs) d t

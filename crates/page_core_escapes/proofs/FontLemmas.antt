@@ -27,13 +27,11 @@ short_escape pairs letter rest font f = rw (f.alone pairs rest, f.bare, f.named)
 
 pub short_font : (text : List ℕ) (font : Face) → 3 ≤ length text → get_or text 0 0 ≡ 92 → get_or text 1 0 ≡ 102 → FontLetter (get_or text 2 0) font
     → ShortFont text font 3
-short_font [] font h a b f = absurd (omega (arith, h))
-short_font (x ∷ []) font h a b f = absurd (omega (arith, h))
-short_font (x ∷ y ∷ []) font h a b f = absurd (omega (arith, h))
 short_font (x ∷ y ∷ z ∷ rest) font h a b f =
     let first : x ≡ 92 = a in
     let second : y ≡ 102 = b in
     record { backslash = a; escape = record { not_empty = omega arith; within = h; escape = λ pairs. rw (first, second) (short_escape pairs z rest font f) } }
+short_font _ font h a b f = absurd (omega (arith, h))
 
 code_name : (pairs : Bool) (rest : List ℕ) → name_len pairs (40 ∷ 67 ∷ 87 ∷ rest) ≡ Some 3
 code_name pairs rest =
@@ -65,12 +63,11 @@ alone_escape letter kind row ascii other pairs rest =
 
 pub short_alone : (letter : ℕ) (kind : LetterKind) → letter_of letter ≡ record { shape = Alone; kind = kind } → continuation_len letter ≡ 0 → (34 == letter) ≡ false
     → (text : List ℕ) → 2 ≤ length text → get_or text 0 0 ≡ 92 → get_or text 1 0 ≡ letter → ShortEscape text (meaning_by kind [] (letter ∷ [])) 2
-short_alone letter kind row ascii other [] h a b = absurd (omega (arith, h))
-short_alone letter kind row ascii other (x ∷ []) h a b = absurd (omega (arith, h))
 short_alone letter kind row ascii other (x ∷ y ∷ rest) h a b =
     let first : x ≡ 92 = a in
     let second : y ≡ letter = b in
     record { not_empty = omega arith; within = h; escape = λ pairs. rw (first, second) (alone_escape letter kind row ascii other pairs rest) }
+short_alone letter kind row ascii other _ h a b = absurd (omega (arith, h))
 
 -- a letter or a digit that names a font
 pub font_letter : (letter : ℕ) → bare_name (letter ∷ []) ≡ letter ∷ [] → continuation_len letter ≡ 0 → (34 == letter) ≡ false
@@ -92,11 +89,10 @@ several name =
 
 pub face_of-several : (name : List ℕ) → 2 ≤ length name → several name ≡ face_of name
 unfolding face_of
-face_of-several [] h = absurd (omega (arith, h))
-face_of-several (b ∷ []) h = absurd (omega (arith, h))
 face_of-several (b ∷ c ∷ bs) h =
     rw (one_longer b c bs 82, one_longer b c bs 49, one_longer b c bs 73, one_longer b c bs 50, one_longer b c bs 66, one_longer b c bs 51, one_longer b c bs 52, one_longer b c bs 80)
     refl
+face_of-several _ h = absurd (omega (arith, h))
 
 -- ---- other names
 
@@ -106,6 +102,5 @@ face_of-empty [] h = refl
 face_of-empty (b ∷ bs) h = absurd (omega arith)
 
 pub one_letter : (name : List ℕ) → length name ≡ 1 → get_or name 0 0 ∷ [] ≡ name
-one_letter [] h = absurd (omega arith)
 one_letter (b ∷ []) h = refl
-one_letter (b ∷ c ∷ bs) h = absurd (omega arith)
+one_letter _ h = absurd (omega arith)

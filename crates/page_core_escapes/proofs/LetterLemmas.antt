@@ -32,15 +32,16 @@ abbrev pub is_alone : Shape → Bool
 is_alone Alone = true
 is_alone _ = false
 
+pub shape_alone : (s : Shape) → is_alone s ≡ true → s ≡ Alone
+shape_alone Alone e = refl
+shape_alone _ e = cc
+
 -- a letter that something follows is one of ASCII
 pub letter_ascii : (key : ℕ) (s : Shape) → (letter_of key).shape ≡ s → is_alone s ≡ false → key < 128
 letter_ascii key s shape other =
     elim (cases_lt key 128) [
       | inl low ↦ low
-      | inr high ↦
-          let none : Alone ≡ s = ap (λ l. l.shape) (sym (letter_of-high key high)) ∙ shape in
-          let alone : true ≡ false = ap is_alone none ∙ other in
-          cc
+      | inr high ↦ let alone : true ≡ false = ap (λ l. is_alone l.shape) (sym (letter_of-high key high)) ∙ ap is_alone shape ∙ other in cc
     ]
 
 -- what follows the letter, and that a size does where one is wanted

@@ -1,5 +1,5 @@
 -- The meaning of an escape that is given as a text of its own.
-use Rattle.std.proofs.Common.{◌≡◌, ℕ, ◌<◌, ◌≤◌, Bool, IsUtf8, chars, List, [], ◌∷◌, length, drop, get_or, refl, arith, inl, inr}
+use Rattle.std.proofs.Common.{◌≡◌, ℕ, ◌<◌, ◌≤◌, Bool, IsUtf8, chars, List, ◌∷◌, length, drop, get_or, refl, arith, inl, inr}
 use Rattle.std.specs.Prelude.{slice_index}
 use Rattle.std.specs.Str.{is_utf8}
 use Rattle.std.proofs.lemmas.Bool.{cases_Bool}
@@ -9,15 +9,13 @@ use Rattle.page_core_escapes.specs.Meanings.{nothing, letter_meaning, first_char
 
 pub meaning_of-short : (pairs : Bool) (t : List ℕ) → length t < 2 → nothing ≡ meaning_of pairs t
 unfolding meaning_of
-meaning_of-short pairs [] short = refl
-meaning_of-short pairs (b ∷ []) short = refl
 meaning_of-short pairs (b ∷ key ∷ written) short = absurd (omega arith)
+meaning_of-short pairs _ short = refl
 
 pub meaning_of-parts : (pairs : Bool) (t : List ℕ) → 2 ≤ length t → letter_meaning pairs (letter_of (get_or t 1 0)) (drop 1 t) ≡ meaning_of pairs t
 unfolding meaning_of
-meaning_of-parts pairs [] long = absurd (omega arith)
-meaning_of-parts pairs (b ∷ []) long = absurd (omega arith)
 meaning_of-parts pairs (b ∷ key ∷ written) long = refl
+meaning_of-parts pairs _ long = absurd (omega arith)
 
 -- ---- a text's first character
 

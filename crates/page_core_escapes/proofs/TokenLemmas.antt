@@ -1,7 +1,6 @@
 -- The tokens of a text, one by one.
-use Rattle.std.proofs.Common.{◌≡◌, ℕ, zero, suc, ◌-◌, ◌<◌, ◌≤◌, ◌&&◌, Bool, true, false, List, [], ◌∷◌, length, take, drop, if◌then◌else◌, refl, ap, ◌∙◌, arith, inl, inr, length-drop}
+use Rattle.std.proofs.Common.{◌≡◌, ℕ, zero, suc, ◌-◌, ◌<◌, ◌≤◌, ◌&&◌, Bool, true, false, List, [], ◌∷◌, length, take, drop, if◌then◌else◌, refl, ap, ◌∙◌, arith, length-drop}
 use Rattle.std.specs.List.{prefix_len}
-use Rattle.std.proofs.lemmas.Bool.{cases_Bool}
 use Rattle.std.proofs.lemmas.Bool.Decides.{nat_tests}
 use Rattle.std.proofs.lemmas.List.{length-take}
 use Rattle.page_core_escapes.specs.Meanings.{escape_of}
@@ -10,16 +9,13 @@ use Rattle.page_core_escapes.specs.laws.Views.{begins_word}
 
 -- more tokens than bytes make no difference
 tokens_enough : (quoted : Bool) (n m : ℕ) (text : List ℕ) → length text ≤ n → length text ≤ m → tokens_within quoted n text ≡ tokens_within quoted m text
-tokens_enough quoted zero zero text p q = refl
-tokens_enough quoted zero (suc m) [] p q = refl
 tokens_enough quoted zero (suc m) (b ∷ bs) p q = absurd (omega arith)
-tokens_enough quoted (suc n) zero [] p q = refl
 tokens_enough quoted (suc n) zero (b ∷ bs) p q = absurd (omega arith)
-tokens_enough quoted (suc n) (suc m) [] p q = refl
 tokens_enough quoted (suc n) (suc m) (b ∷ bs) p q =
     let rest = drop (token_len quoted (b ∷ bs) - 1) bs in
     let e = length-drop (token_len quoted (b ∷ bs) - 1) bs in
     ap (λ l. token_at quoted (b ∷ bs) ∷ l) (tokens_enough quoted n m rest (omega (arith, e)) (omega (arith, e)))
+tokens_enough quoted _ _ _ p q = refl
 
 past_first : (n b : ℕ) (bs : List ℕ) → 0 < n → drop (n - 1) bs ≡ drop n (b ∷ bs)
 past_first zero b bs h = absurd (omega arith)
@@ -63,11 +59,10 @@ token_within quoted text =
     (front_within (prefix_len (prints_itself quoted) text) text)))
 
 some_within : (quoted : Bool) (n : ℕ) (text : List ℕ) → tokens_len (tokens_within quoted n text) ≤ length text
-some_within quoted zero text = omega arith
-some_within quoted (suc n) [] = omega arith
 some_within quoted (suc n) (b ∷ bs) =
     let cut = token_len quoted (b ∷ bs) - 1 in
     omega (arith, token_within quoted (b ∷ bs), some_within quoted n (drop cut bs), length-drop cut bs)
+some_within quoted _ _ = omega arith
 
 -- the tokens of a text have no more bytes than it
 pub len_within : (quoted : Bool) (text : List ℕ) → tokens_len (tokens_of quoted text) ≤ length text
@@ -87,13 +82,7 @@ unfolding token_at
 space_token quoted b bs t = rw t refl
 
 pub not_white : (b : ℕ) (bs : List ℕ) → begins_word (b ∷ bs) ≡ true → is_white b ≡ false
-not_white b bs h = elim (cases_Bool (is_white b)) [ inl t ↦ absurd (never (rw t at h)) | inr t ↦ t ]
-  where
-    never : false ≡ true → ⊥
-    never e = grind (arith, e)
+not_white b bs h = grind (arith, nat_tests, h)
 
 pub white_first : (b : ℕ) (bs : List ℕ) → begins_word (b ∷ bs) ≡ false → is_white b ≡ true
-white_first b bs h = elim (cases_Bool (is_white b)) [ inl t ↦ t | inr t ↦ absurd (never (rw t at h)) ]
-  where
-    never : true ≡ false → ⊥
-    never e = grind (arith, e)
+white_first b bs h = grind (arith, nat_tests, h)

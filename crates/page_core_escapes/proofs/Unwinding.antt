@@ -7,7 +7,7 @@ use Rattle.std.proofs.lemmas.Bool.Decides.{nat_tests}
 use Rattle.std.proofs.lemmas.List.{drop-drop, length-take, length-take-le, take_all, reverse-append, take-append-drop, drop_more}
 use Rattle.std.proofs.lemmas.Option.{slice_get_within, get_or_from_slice_get, slice_get-get_or}
 use Rattle.page_core_escapes.specs.declared.extents.Extent.{Extent}
-use Rattle.page_core_escapes.specs.declared.extents.Extent.TheVariants.{Whole, QuotedFrom}
+use Rattle.page_core_escapes.specs.declared.extents.Extent.TheVariants.{QuotedFrom}
 use Rattle.page_core_escapes.specs.declared.quoted.Step.{Step}
 use Rattle.page_core_escapes.specs.declared.quoted.Step.TheVariants.{Passes, Opens, Closes}
 use Rattle.page_core_escapes.specs.Lengths.{written_len, extent_of, quoted_len, extent_len, escape_len_by, content_len}
@@ -114,8 +114,6 @@ module _ (pairs : Bool) where
 
   rest_len-extent : (d : List ℕ) (ds : List (List ℕ)) (t : List ℕ) (o : Option Extent) → option_and_then (λ e. option_map (λ r. e + r) (rest_len (d ∷ ds) (drop e t))) (option_and_then (extent_len pairs (content_len pairs) t) o) ≡ option_and_then (after_step d ds t) (option_and_then (step_over pairs t) o)
   unfolding extent_len
-  rest_len-extent d ds t None = refl
-  rest_len-extent d ds t (Some (Whole n)) = refl
   rest_len-extent d ds t (Some (QuotedFrom n)) = go (written_len pairs (drop n t)) refl
     where
       go : (o : Option ℕ) → written_len pairs (drop n t) ≡ o → option_and_then (λ e. option_map (λ r. e + r) (rest_len (d ∷ ds) (drop e t))) (option_map (λ k. n + k) (quoted_len pairs (content_len pairs) (drop n t))) ≡ option_and_then (after_step d ds t) (option_map (λ mark. Opens n mark) o)
@@ -123,6 +121,7 @@ module _ (pairs : Bool) where
       go (Some mark) is =
           rest_len-opens d ds t n mark is
           ∙ ap (λ m. option_map (λ r. n + mark + r) (rest_len (take (unwrap_or m 0) (drop n t) ∷ d ∷ ds) (drop (n + mark) t))) (sym is)
+  rest_len-extent d ds t _ = refl
 
   -- what is left where k bytes are before the delimiter
   abbrev left_of : List ℕ → List (List ℕ) → List ℕ → ℕ → Option ℕ

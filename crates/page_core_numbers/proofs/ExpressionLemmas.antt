@@ -132,9 +132,8 @@ over-rest false (b ∷ bs) over = let none = eqb-true (length (b ∷ bs)) 0 over
 
 over-none : (ends : Bool) (rest : List ℕ) → (ends || length rest == 0) ≡ true → next_operator ends rest ≡ None
 unfolding operator_at
-over-none true rest over = refl
-over-none false [] over = refl
 over-none false (b ∷ bs) over = let none = eqb-true (length (b ∷ bs)) 0 over in absurd (omega arith)
+over-none _ _ over = refl
 
 -- an expression that is over is that in parentheses
 over-around : (room : ℕ) (scale : Scale) (text inner : List ℕ) (so_far : Read ℤ) → text ≡ 40 ∷ inner → so_far ≡ expression_within room scale inner

@@ -39,11 +39,9 @@ spelling_of-short c =
 
 glyph_of-short : (name : List ℕ) (symbol : Symbol) → Some symbol ≡ glyph_of name → length symbol.spelling ≤ 8
 unfolding glyph_of
-glyph_of-short [] symbol e = let never : Some symbol ≡ None = e in cc
-glyph_of-short (a ∷ []) symbol e = let never : Some symbol ≡ None = e in cc
 glyph_of-short (a ∷ b ∷ []) symbol e =
     nat_le-true (length symbol.spelling) 8 (symbol_at-passes (λ key s. nat_le (length s.spelling) 8) table (name_key a b) symbol all_short (sym e))
-glyph_of-short (a ∷ b ∷ c ∷ rest) symbol e = let never : Some symbol ≡ None = e in cc
+glyph_of-short _ symbol e = let never : Some symbol ≡ None = e in cc
 
 by_spelling-short : (spelling : List ℕ) (c : ℕ) → length spelling ≤ 8 → length (by_spelling spelling c).characters ≤ 8
 by_spelling-short [] c short = omega arith

@@ -29,14 +29,13 @@ keys_rise-at least (r ∷ rs) (suc i) d h lt =
 -- an earlier key is no greater than a later one
 keys_in_order : (least : ℕ) (rows : List (ℕ × ℕ × Bor (List ℕ))) (i j : ℕ) (d : ℕ × ℕ × Bor (List ℕ)) → keys_rise least (entries rows) ≡ true → i ≤ j → j < length rows
     → (get_or rows i d).0 ≤ (get_or rows j d).0
-keys_in_order least [] i j d h le lt = absurd (omega arith)
 keys_in_order least (r ∷ rs) zero zero d h le lt = omega arith
 keys_in_order least (r ∷ rs) zero (suc j) d h le lt =
     let parts = keys_rise-parts least (entry r.0 r.1 r.2.now) (entries rs) h in
     omega (arith, keys_rise-at (r.0 + 1) rs j d parts.1 (omega arith))
-keys_in_order least (r ∷ rs) (suc i) zero d h le lt = absurd (omega arith)
 keys_in_order least (r ∷ rs) (suc i) (suc j) d h le lt =
     keys_in_order (r.0 + 1) rs i j d (keys_rise-parts least (entry r.0 r.1 r.2.now) (entries rs) h).1 (omega arith) (omega arith)
+keys_in_order least _ _ _ d h le lt = absurd (omega arith)
 
 -- the symbol of a row
 abbrev pub symbol_in : ℕ × ℕ × Bor (List ℕ) → Symbol

@@ -41,10 +41,8 @@ glyph_of-pair first second = refl
 
 pub glyph_of-length : (name : List ℕ) → (length name ≡ 2 → ⊥) → glyph_of name ≡ None
 unfolding glyph_of
-glyph_of-length [] other = refl
-glyph_of-length (a ∷ []) other = refl
 glyph_of-length (a ∷ b ∷ []) other = absurd (other refl)
-glyph_of-length (a ∷ b ∷ c ∷ rest) other = refl
+glyph_of-length _ other = refl
 
 -- ---- spellings
 

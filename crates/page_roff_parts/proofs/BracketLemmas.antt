@@ -52,9 +52,8 @@ bracket_at text k h =
 -- ---- what follows a part lacks it too
 
 lacks_drop : (k : ℕ) (text : List ℕ) → Lacks text → Lacks (drop k text)
-lacks_drop zero text h = h
-lacks_drop (suc k) [] h = h
 lacks_drop (suc k) (b ∷ bs) h = lacks_drop k bs (later_false (b == 93) (has_bracket bs) h)
+lacks_drop _ _ h = h
 
 lacks_if : (c : Bool) (xs ys : List ℕ) → Lacks xs → Lacks ys → Lacks (if c then xs else ys)
 lacks_if true xs ys h k = h

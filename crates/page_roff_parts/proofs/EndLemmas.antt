@@ -46,9 +46,8 @@ two_more text i e h n =
 
 short_text : (text : List ℕ) → length text ≡ 1 → (get_or text 0 0 == 92) ≡ true → without_lone text ≡ []
 unfolding without_lone
-short_text [] h e = absurd (omega arith)
 short_text (x ∷ []) h e = rw e refl
-short_text (x ∷ y ∷ ys) h e = absurd (omega arith)
+short_text _ h e = absurd (omega arith)
 
 other_text : (text : List ℕ) → length text ≤ 1 → (0 < length text → (get_or text 0 0 == 92) ≡ false) → without_lone text ≡ text
 unfolding without_lone

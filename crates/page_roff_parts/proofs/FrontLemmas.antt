@@ -15,7 +15,7 @@ use Rattle.page_roff_parts.specs.machine.Verbatim.{IsVerbatim, copied_bytes}
 use Rattle.page_roff_parts.specs.machine.Brackets.{has_bracket}
 use Rattle.page_roff_syntax.specs.Delimiters.{character_len, place_of, width_len}
 use Rattle.page_roff_parts.proofs.BracketLemmas.{lacking}
-use Rattle.page_roff_parts.proofs.ReadLemmas.{parts_more, plain_part, seen_shorter}
+use Rattle.page_roff_parts.proofs.ReadLemmas.{by_if, parts_more, plain_part, seen_shorter}
 
 -- ---- interpolations without an end
 
@@ -91,8 +91,6 @@ copied_then zero m ps qs rs x y e l f =
     let first : [] ≡ x = ap (λ (p : Front). p.0) is in
     let second : ps ≡ qs = ap (λ (p : Front). p.1) is in
     rw (zero-add m, ← first, second) f
-copied_then (suc n) m [] qs rs x y e l f = let no : ⊥ = cc in absurd no
-copied_then (suc n) m (Called call ∷ ps) qs rs x y e l f = let no : ⊥ = cc in absurd no
 copied_then (suc n) m (Copied run ∷ ps) qs rs x y e l f =
     let is = map_is (λ (front : Front). (run ++ front.0, front.1)) (copied_front (suc n - length run) ps) (x, qs) e in
     let bytes : run ++ is.0.0 ≡ x = ap (λ (p : Front). p.0) is.1.1 in
@@ -104,6 +102,7 @@ copied_then (suc n) m (Copied run ∷ ps) qs rs x y e l f =
   where
     suc_add : (n m : ℕ) → suc n + m ≡ suc (n + m)
     suc_add n m = omega arith
+copied_then _ m _ qs rs x y e l f = let no : ⊥ = cc in absurd no
 
 -- some bytes, and then more
 pub front_then : (copy : Bool) (n m : ℕ) (text : List ℕ) → n ≤ length text → IsFront copy n text → IsFront copy m (drop n text) → IsFront copy (n + m) text
@@ -134,10 +133,6 @@ abbrev HasBytes : Part (List ℕ) → Type 0
 HasBytes (Copied run) = 0 < length run
 HasBytes (Called call) = ⊤
 
-some_if : (b : Bool) (x y : SeenText) → HasBytes x.part → HasBytes y.part → HasBytes (if b then x else y).part
-some_if true x y h k = h
-some_if false x y h k = k
-
 some_or : (copy : Bool) (letter : ℕ) (bs : List ℕ) (x : SeenText) → HasBytes x.part → HasBytes (unwrap_or (call_cut copy letter bs) x).part
 some_or copy letter bs x h = called_or (call_cut copy letter bs) (call_called copy letter bs)
   where
@@ -149,12 +144,9 @@ some_or copy letter bs x h = called_or (call_cut copy letter bs) (call_called co
     named make None = tt
     named make (Some c) = tt
 
-    either : (b : Bool) (o p : Option SeenText) → IfSome o (λ y. HasBytes y.part) → IfSome p (λ y. HasBytes y.part) → IfSome (if b then o else p) (λ y. HasBytes y.part)
-    either true o p h k = h
-    either false o p h k = k
-
     call_called : (copy : Bool) (letter : ℕ) (bs : List ℕ) → IfSome (call_cut copy letter bs) (λ y. HasBytes y.part)
     call_called copy letter bs =
+        let either = by_if (λ o. IfSome o (λ (y : SeenText). HasBytes y.part)) in
         either (letter == 42) _ _ (named (λ t. String t) (name_cut bs))
         (either (letter == 110) _ _ (named (λ t. Register t) (name_cut bs))
         (either (letter == 36) _ _ tt
@@ -163,12 +155,12 @@ some_or copy letter bs x h = called_or (call_cut copy letter bs) (call_called co
 escape_some : (copy : Bool) (bs : List ℕ) → HasBytes (escape copy bs).part
 escape_some copy [] = omega arith
 escape_some copy (letter ∷ bs) =
-    some_if (is_doubled copy letter) (copies (92 ∷ []) bs) (unwrap_or (call_cut copy letter bs) (pair (letter ∷ bs))) (omega arith)
+    by_if (λ x. HasBytes x.part) (is_doubled copy letter) (copies (92 ∷ []) bs) (unwrap_or (call_cut copy letter bs) (pair (letter ∷ bs))) (omega arith)
     (some_or copy letter bs (pair (letter ∷ bs)) (omega arith))
 
 seen_some : (copy : Bool) (b : ℕ) (bs : List ℕ) → HasBytes (seen copy (b ∷ bs)).part
 unfolding seen
-seen_some copy b bs = some_if (b == 92) (escape copy bs) (copies (b ∷ plain bs) (after_plain bs)) (escape_some copy bs) (omega arith)
+seen_some copy b bs = by_if (λ x. HasBytes x.part) (b == 92) (escape copy bs) (copies (b ∷ plain bs) (after_plain bs)) (escape_some copy bs) (omega arith)
 
 -- a text of which all bytes are copied
 copied_whole : (copy : Bool) (n : ℕ) (text x : List ℕ) → length text ≤ n → copied_bytes (parts copy text) ≡ Some x → copied_front (length x) (parts copy text) ≡ Some (x, [])

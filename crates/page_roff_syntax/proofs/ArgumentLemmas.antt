@@ -133,12 +133,8 @@ argument_some b bs t = grind arith
 
 -- more parts than bytes make no difference
 enough : (n m column : ℕ) (text : List ℕ) → length text ≤ n → length text ≤ m → first_arguments n column text ≡ first_arguments m column text
-enough zero zero column text p q = refl
-enough zero (suc m) column [] p q = refl
 enough zero (suc m) column (b ∷ bs) p q = absurd (omega arith)
-enough (suc n) zero column [] p q = refl
 enough (suc n) zero column (b ∷ bs) p q = absurd (omega arith)
-enough (suc n) (suc m) column [] p q = refl
 enough (suc n) (suc m) column (b ∷ bs) p q =
     elim (cases_Bool (is_blank b)) [
       | inl t ↦ rw t (enough n m (column + 1) bs (omega arith) (omega arith))
@@ -148,6 +144,7 @@ enough (suc n) (suc m) column (b ∷ bs) p q =
           rw t (ap (λ l. first_argument column (b ∷ bs) ∷ l)
           (enough n m (column + argument_len (b ∷ bs)) (drop (argument_len (b ∷ bs)) (b ∷ bs)) (omega (arith, e)) (omega (arith, e))))
     ]
+enough _ _ column _ p q = refl
 
 one_blank : (column b : ℕ) (bs : List ℕ) → is_blank b ≡ true → arguments column (b ∷ bs) ≡ arguments (column + 1) bs
 unfolding arguments

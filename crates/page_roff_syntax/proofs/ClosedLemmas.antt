@@ -119,9 +119,7 @@ pub apart : true ≡ false → ⊥
 apart e = let no : ⊥ = cc in no
 
 both : (a b : Bool) → (not a && not b) ≡ true → b ≡ false
-both true b h = let no : ⊥ = cc in absurd no
-both false true h = sym h
-both false false h = refl
+both a b h = grind (arith, h)
 
 -- from behind a byte that is no backslash on, pairs are the same as if the text began there
 outside_drop : (n at : ℕ) (text : List ℕ) → (get_or text at 0 == 92) ≡ false → is_outside (suc at + n) text ≡ is_outside n (drop (suc at) text)

@@ -1,51 +1,33 @@
 -- Control lines, whose comment follows the name: helpers of proofs.
-use Rattle.std.proofs.Common.{◌≡◌, ℕ, zero, suc, ◌+◌, ◌≤◌, ◌==◌, Bool, true, false, nat_lt, List, [], ◌∷◌, length, take, drop, cond, Some, refl, ap, ◌∙◌, inl, inr, arith}
+use Rattle.std.proofs.Common.{◌≡◌, ℕ, zero, suc, ◌+◌, ◌≤◌, ◌==◌, Bool, true, false, nat_lt, List, [], ◌∷◌, length, take, drop, Some, refl, ap, ◌∙◌, arith}
 use Rattle.std.specs.List.{prefix_len}
-use Rattle.std.proofs.lemmas.Bool.{cases_Bool, eqb-true}
 use Rattle.std.proofs.lemmas.Bool.Decides.{nat_tests}
 use Rattle.page_roff_syntax.specs.LineForms.{is_white, is_name, is_control, has_word, without_comment, name_start, name_len, control_line, form_of}
 use Rattle.page_roff_syntax.specs.laws.Views.{is_plain, begins_control, name_of}
-use Rattle.page_roff_syntax.proofs.FormLemmas.{plain_false}
 use Rattle.page_roff_syntax.specs.declared.line_forms.LineForm.TheVariants.{Control}
 
 -- ---- bytes before the first backslash are before the comment
 
 taken : (text : List ℕ) (n : ℕ) → n ≤ prefix_len is_plain text → take n (without_comment text) ≡ take n text
-taken text zero h = refl
-taken [] (suc n) h = refl
-taken (x ∷ []) (suc n) h = refl
-taken (x ∷ y ∷ ys) (suc n) h =
-    elim (cases_Bool (x == 92)) [
-      | inl t ↦ let k = rw t at h in absurd (omega (arith, k))
-      | inr t ↦ let k = rw t at h in rw t (ap (λ (l : List ℕ). x ∷ l) (taken (y ∷ ys) n (omega (arith, k))))
-    ]
+taken (x ∷ y ∷ ys) (suc n) h = grind (arith, nat_tests, h, taken (y ∷ ys) n)
+taken _ _ h = refl
 
 dropped : (text : List ℕ) (n : ℕ) → n ≤ prefix_len is_plain text → drop n (without_comment text) ≡ without_comment (drop n text)
 dropped text zero h = refl
 dropped [] (suc n) h = refl
 dropped (x ∷ []) (suc zero) h = refl
 dropped (x ∷ []) (suc (suc n)) h = refl
-dropped (x ∷ y ∷ ys) (suc n) h =
-    elim (cases_Bool (x == 92)) [
-      | inl t ↦ let k = rw t at h in absurd (omega (arith, k))
-      | inr t ↦ let k = rw t at h in rw t (dropped (y ∷ ys) n (omega (arith, k)))
-    ]
+dropped (x ∷ y ∷ ys) (suc n) h = grind (arith, nat_tests, h, dropped (y ∷ ys) n)
 
 -- a run of bytes that a backslash ends is no other one without the comment
 counted : (p : ℕ → Bool) (text : List ℕ) → p 92 ≡ false → prefix_len p (without_comment text) ≡ prefix_len p text
-counted p [] h = refl
-counted p (x ∷ []) h = refl
 counted p (x ∷ y ∷ ys) h = grind (arith, nat_tests, counted p (y ∷ ys) h)
+counted p _ h = refl
 
 -- such a run is before the first backslash
-shorter_step : (a b : Bool) (n m : ℕ) → (b ≡ false → a ≡ false) → n ≤ m → cond a (1 + n) 0 ≤ cond b (1 + m) 0
-shorter_step false b n m w h = omega arith
-shorter_step true true n m w h = omega arith
-shorter_step true false n m w h = let no : true ≡ false = w refl in cc
-
 shorter : (p : ℕ → Bool) (text : List ℕ) → p 92 ≡ false → prefix_len p text ≤ prefix_len is_plain text
 shorter p [] h = omega arith
-shorter p (x ∷ xs) h = shorter_step (p x) (is_plain x) _ _ (λ t. ap p (eqb-true x 92 (plain_false (x == 92) t)) ∙ h) (shorter p xs h)
+shorter p (x ∷ xs) h = grind (arith, nat_tests, h, shorter p xs h)
 
 -- ---- a control line: its name, and the rest without its comment
 

@@ -57,8 +57,6 @@ pub reached : (d text : List ℕ) (n : ℕ) (b : Bool) → n < length text → A
     → place_of d text ≡ n + second b + place_of d (drop (n + second b) text)
 reached d text zero true h a p = omega arith
 reached d text zero false h a p = let no : ⊥ = cc in absurd no
-reached d [] (suc n) b h a p = absurd (omega arith)
-reached d (x ∷ []) (suc n) b h a p = absurd (omega arith)
 reached d (x ∷ y ∷ ys) (suc zero) b h a p =
     elim (cases_Bool (x == 92)) [
       | inl t ↦ let is : false ≡ b = rw t at p in rw (← is) (pair_first d x y ys (a 0 (omega arith)) t)
@@ -77,6 +75,7 @@ reached d (x ∷ y ∷ ys) (suc (suc n)) b h a p =
           let e : suc (suc n) + second b ≡ suc (suc n + second b) = omega arith in
           rw e (omega (arith, q, r))
     ]
+reached d _ _ _ h a p = absurd (omega arith)
 
 -- where it is found it begins, outside pairs
 pub place_found : (d text : List ℕ) → place_of d text < length text

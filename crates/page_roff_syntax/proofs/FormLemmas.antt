@@ -42,9 +42,8 @@ plain_passed (x ∷ y ∷ ys) =
     ]
 
 short_line : (line : List ℕ) → length line ≤ 1 → without_comment line ≡ line
-short_line [] h = refl
-short_line (x ∷ []) h = refl
 short_line (x ∷ y ∷ ys) h = absurd (omega arith)
+short_line _ h = refl
 
 -- ---- a line as far as it was read: up to a backslash outside its comment, or to its end
 pub record IsReadTo (line : List ℕ) (i : ℕ) : Type 0 where
@@ -105,9 +104,8 @@ abbrev IsFrontOf : List ℕ → List ℕ → Type 0
 IsFrontOf line text = take (length text) line ≡ text
 
 uncommented_front : (line : List ℕ) → IsFrontOf line (without_comment line)
-uncommented_front [] = refl
-uncommented_front (x ∷ []) = refl
 uncommented_front (x ∷ y ∷ ys) = grind (arith, nat_tests, uncommented_front ys, uncommented_front (y ∷ ys))
+uncommented_front _ = refl
 
 pub front_of : (line : List ℕ) (n : ℕ) → length (without_comment line) ≡ n → take n line ≡ without_comment line
 front_of line n e = rw (← e) (uncommented_front line)

@@ -26,12 +26,11 @@ pub lacks_later : (one other x : ℕ) (xs : List ℕ) → LacksPair one other (x
 lacks_later one other x xs h = λ k l. sym (shifted one other x xs k) ∙ h (suc k) (omega arith)
 
 pub without_pairs : (line : List ℕ) → LacksPair 34 35 line → without_comment line ≡ line
-without_pairs [] h = refl
-without_pairs (x ∷ []) h = refl
 without_pairs (x ∷ y ∷ ys) h =
     let t = lacks_later 34 35 x (y ∷ ys) h in
     rw (without_pairs (y ∷ ys) t)
     (uncommented_if (x == 92) (begins_comment y) x y ys (without_comment ys) (h 0 (omega arith)) (without_pairs ys (lacks_later 34 35 y ys t)))
+without_pairs _ h = refl
 
 -- a lane of a vector is set where a pair begins
 
@@ -64,14 +63,13 @@ seconds one other w = map (λ y. bit_or (cond (eqb y one) 255 0) (cond (eqb y ot
 
 pub none_set : (one other : ℕ) (v w : List ℕ) → length v ≡ length w → mask_l (map (top 7) (zip2 bit_and (firsts v) (seconds one other w))) ≡ 0
     → (k : ℕ) → k < length v → is_pair (get_or v k 0) (get_or w k 0) one other ≡ false
-none_set one other [] w e h k l = absurd (omega arith)
-none_set one other (x ∷ v) [] e h k l = absurd (omega arith)
 none_set one other (x ∷ v) (y ∷ w) e h zero l =
     let s = rw (lane (eqb x 92) (eqb y one) (eqb y other)) at h in
     first_unset (is_pair x y one other) _ s
 none_set one other (x ∷ v) (y ∷ w) e h (suc k) l =
     let s = rw (lane (eqb x 92) (eqb y one) (eqb y other)) at h in
     none_set one other v w (omega arith) (others_unset (is_pair x y one other) _ s) k (omega arith)
+none_set one other _ _ e h _ l = absurd (omega arith)
 
 all_unset : (one other : ℕ) (v w : List ℕ) → length v ≡ length w → ((k : ℕ) → k < length v → is_pair (get_or v k 0) (get_or w k 0) one other ≡ false)
     → mask_l (map (top 7) (zip2 bit_and (firsts v) (seconds one other w))) ≡ 0
