@@ -65,14 +65,16 @@ passes p letter (k ∷ ks) all h =
 alone : (b : ℕ) → b < 128 → continuation_len b ≡ 0
 alone b ascii = grind (arith, nat_tests, ascii)
 
-printed-one : (output : Output) (c columns : ℕ) → unwrap_or (if is_printable c then Some 1 else None) 2 ≡ columns → columns ≤ 1 → columns ≡ characters_columns (char_printed output c).characters
+printed-one : (output : Output) (c columns : ℕ) → unwrap_or (if is_printable c then Some 1 else None) 2 ≡ columns → columns ≤ 1
+    → columns ≡ characters_columns (char_printed output c).characters
 printed-one output c columns e few =
     elim (cases_Bool (is_printable c)) [
       | inl p ↦ sym (rw p at e) ∙ sym (printed-printable output c (grind (arith, nat_tests, p)) (grind (arith, nat_tests, p)))
       | inr p ↦ let two : 2 ≡ columns = rw p at e in absurd (omega arith)
     ]
 
-columns-printed : (output : Output) (m : Meaning) (columns : ℕ) → unwrap_or (meaning_columns m) 2 ≡ columns → columns ≤ 1 → columns ≡ characters_columns (printed_escape output m)
+columns-printed : (output : Output) (m : Meaning) (columns : ℕ) → unwrap_or (meaning_columns m) 2 ≡ columns → columns ≤ 1
+    → columns ≡ characters_columns (printed_escape output m)
 columns-printed output nothing columns e few = sym e
 columns-printed output glue columns e few = sym e
 columns-printed output unsupported columns e few = sym e
@@ -82,9 +84,12 @@ columns-printed output (character c) columns e few = printed-one output c column
 columns-printed output (undefined c) columns e few = printed-one output c columns e few
 columns-printed output _ columns e few = absurd (omega (arith, e))
 
-letter-escape : (letter : ℕ) (rest : List ℕ) → is_alone (letter_of letter).shape ≡ true → letter < 128 → escape_of false (92 ∷ letter ∷ rest) ≡ (meaning_alone letter, 2)
+letter-escape : (letter : ℕ) (rest : List ℕ) → is_alone (letter_of letter).shape ≡ true → letter < 128
+    → escape_of false (92 ∷ letter ∷ rest) ≡ (meaning_alone letter, 2)
 unfolding escape_of escape_len escape_len_by extent_len meaning_of
-letter-escape letter rest alone_is ascii = let shape = shape_alone (letter_of letter).shape alone_is in rw (shape, one_byte letter rest (alone letter ascii), shape) refl
+letter-escape letter rest alone_is ascii =
+    let shape = shape_alone (letter_of letter).shape alone_is in
+    rw (shape, one_byte letter rest (alone letter ascii), shape) refl
 
 -- ---- the letters of the code
 
@@ -100,7 +105,12 @@ letters-columns letters columns all few (x ∷ y ∷ more) rest is long h =
     let known = and_parts (nat_lt y 128) (unwrap_or (meaning_columns (meaning_alone y)) 2 == columns) found.1 in
     let escape = letter-escape y more found.0 (ltb-true y 128 known.0) in
     let same = eqb-true (unwrap_or (meaning_columns (meaning_alone y)) 2) columns known.1 in
-    record { some = omega arith; few = few; columns_are = λ output. rw (first, escape) (columns-printed output (meaning_alone y) columns same few); len_is = rw (first, escape) refl }
+    record {
+      some = omega arith;
+      few = few;
+      columns_are = λ output. rw (first, escape) (columns-printed output (meaning_alone y) columns same few);
+      len_is = rw (first, escape) refl;
+    }
 letters-columns letters columns all few _ rest is long h = absurd (omega (arith, long))
 
 pub nothing-columns : Columns nothing_letters 0

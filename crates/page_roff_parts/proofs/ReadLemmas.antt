@@ -119,7 +119,8 @@ name_within [] = tt
 name_within (b ∷ bs) =
     by_if (CutWithin (suc (length bs))) (b == 40) _ _
     (wider (two_characters bs) (two_within bs))
-    (by_if (CutWithin (suc (length bs))) (b == 91) _ _ (wider (bracketed bs) (bracketed_at bs (position (λ c. c == 93) bs))) (drop_le (character_len (b ∷ bs) + 0) (b ∷ bs)))
+    (by_if (CutWithin (suc (length bs))) (b == 91) _ _
+    (wider (bracketed bs) (bracketed_at bs (position (λ c. c == 93) bs))) (drop_le (character_len (b ∷ bs) + 0) (b ∷ bs)))
   where
     wider : (o : Option CutText) → CutWithin (length bs) o → CutWithin (suc (length bs)) o
     wider None h = tt
@@ -150,7 +151,8 @@ escape_shorter : (copy : Bool) (text : List ℕ) → length (escape copy text).r
 escape_shorter copy [] = omega arith
 escape_shorter copy (c ∷ bs) =
     by_if (λ x. length x.rest ≤ suc (length bs)) (is_doubled copy c) (copies (92 ∷ []) bs) _ (omega arith)
-    (or_shorter (call_cut copy c bs) (pair (c ∷ bs)) (suc (length bs)) (wider (call_cut copy c bs) (call_within copy c bs)) (drop_le (character_len (c ∷ bs)) (c ∷ bs)))
+    (or_shorter (call_cut copy c bs) (pair (c ∷ bs)) (suc (length bs)) (wider (call_cut copy c bs) (call_within copy c bs))
+    (drop_le (character_len (c ∷ bs)) (c ∷ bs)))
   where
     wider : (o : Option SeenText) → SeenWithin (length bs) o → SeenWithin (suc (length bs)) o
     wider None h = tt
@@ -158,7 +160,8 @@ escape_shorter copy (c ∷ bs) =
 
 pub seen_shorter : (copy : Bool) (b : ℕ) (bs : List ℕ) → length (seen copy (b ∷ bs)).rest ≤ length bs
 unfolding seen
-seen_shorter copy b bs = by_if (λ x. length x.rest ≤ length bs) (b == 92) (escape copy bs) (copies (b ∷ plain bs) (after_plain bs)) (escape_shorter copy bs) (after_shorter bs)
+seen_shorter copy b bs =
+    by_if (λ x. length x.rest ≤ length bs) (b == 92) (escape copy bs) (copies (b ∷ plain bs) (after_plain bs)) (escape_shorter copy bs) (after_shorter bs)
 
 -- enough is enough
 enough : (copy : Bool) (n m : ℕ) (text : List ℕ) → length text ≤ n → length text ≤ m → parts_up_to copy n text ≡ parts_up_to copy m text
