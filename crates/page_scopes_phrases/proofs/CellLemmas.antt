@@ -28,8 +28,7 @@ tab_found quoted text n k some e h = ap before_tab (tokens_more quoted text n so
 
 pub tab_more : (quoted : Bool) (text : List ℕ) (n : ℕ) → 0 < n → n ≡ token_len quoted text → tab_in (token_at quoted text) ≡ None
     → before_tab (tokens_of quoted text) ≡ n + before_tab (tokens_of quoted (drop n text))
-tab_more quoted text n some e h =
-    ap before_tab (tokens_more quoted text n some e) ∙ (rw h (ap (λ (m : ℕ). m + before_tab (tokens_of quoted (drop n text))) (sym e)))
+tab_more quoted text n some e h = grind (arith, tokens_more)
 
 pub tab_none : (quoted : Bool) (text : List ℕ) → length text ≤ 0 → before_tab (tokens_of quoted text) ≡ 0
 tab_none quoted text h = ap before_tab (tokens_none quoted text h)
@@ -77,16 +76,8 @@ end_by end start more = if more == 0 then end else start + more
 end_steps : (space none : Bool) (end start n more : ℕ) → 0 < n → (more == 0) ≡ none
     → end_by end start (if space && more == 0 then 0 else n + more) ≡ end_by (if space then end else start + n) (start + n) more
 end_steps true true end start n more some e = rw e refl
-end_steps true false end start n more some e =
-    let no : (n + more == 0) ≡ false = grind (arith, nat_tests, some) in
-    let a : start + (n + more) ≡ start + n + more = omega arith in
-    rw (e, no) a
-end_steps false none end start n more some e =
-    let no : (n + more == 0) ≡ false = grind (arith, nat_tests, some) in
-    rw no (elim (cases_Bool (more == 0)) [
-      | inl z ↦ rw z (let m : more ≡ 0 = grind (arith, nat_tests, z) in let a : start + (n + more) ≡ start + n = omega (arith, m) in a)
-      | inr z ↦ rw z (let a : start + (n + more) ≡ start + n + more = omega arith in a)
-    ])
+end_steps true false end start n more some e = grind arith
+end_steps false none end start n more some e = grind arith
 
 -- one token more, which holds no tab
 pub end_more : (quoted : Bool) (text : List ℕ) (n end start : ℕ) → 0 < n → n ≡ token_len quoted text → tab_in (token_at quoted text) ≡ None
@@ -113,11 +104,7 @@ span_is quoted text end tab h k = rw (h, k) refl
 token-ahead : (quoted : Bool) (text rest : List ℕ) → drop (prefix_len (λ byte. byte == 32) text) text ≡ 9 ∷ rest
     → (0 < token_len quoted text) × (tab_in (token_at quoted text) ≡ Some (prefix_len (λ byte. byte == 32) text))
 unfolding token_at
-token-ahead quoted text rest h =
-    let a = ahead text rest h in
-    let some = a.1 in
-    let before = is_before (prefix_len (λ byte. byte == 32) text) (length (take (prefix_len is_white text) text)) a.1 in
-    (rw a.2 (omega (arith, some)), rw (a.2, a.0, before) refl)
+token-ahead quoted text rest h = grind (arith, ahead, is_before)
 
 -- the first cell of such a text
 pub span-ahead : (quoted : Bool) (text : List ℕ) (blanks : ℕ) → blanks ≡ prefix_len (λ byte. byte == 32) text → blanks < length text → get_or text blanks 0 ≡ 9
@@ -133,27 +120,13 @@ span-ahead quoted text blanks e less tab =
 
 after_tab-shorter : (text : List ℕ) → 0 < length text → length (after_tab text) < length text
 after_tab-shorter [] h = absurd (omega arith)
-after_tab-shorter (byte ∷ bytes) h = elim (cases_Bool (byte == 9)) [
-  | inl t ↦ rw t (omega arith)
-  | inr t ↦ rw t (omega (arith, length-drop 1 bytes))
-]
+after_tab-shorter (byte ∷ bytes) h = grind arith
 
 pub others-shorter : (p : Phrase (List ℕ)) → has_tab p ≡ true → length (other_cells_text (span p) p.text) < length p.text
-others-shorter p h =
-    let tab = (span p).tab in
-    let before : tab < length p.text = grind (arith, nat_tests, h) in
-    let d = length-drop tab p.text in
-    let some : 0 < length (drop tab p.text) = omega (arith, d, before) in
-    let a = after_tab-shorter (drop tab p.text) some in
-    let b = length-drop (prefix_len (λ byte. byte == 32) (after_tab (drop tab p.text))) (after_tab (drop tab p.text)) in
-    omega (arith, a, b, d)
+others-shorter p h = grind (arith, length-drop, after_tab-shorter)
 
 pub others-fit : (p : Phrase (List ℕ)) → has_tab p ≡ true → FitsAt p.column p.text → FitsAt (other_cells (span p) p).column (other_cells (span p) p).text
-others-fit p h fits =
-    let a = others-shorter p h in
-    let short = fits.short in
-    let room = fits.room in
-    record { short = omega (arith, a, short); room = omega (arith, a, room) }
+others-fit p h fits = grind (arith, others-shorter)
 
 pub is_not_before : (m n : ℕ) → n ≤ m → nat_lt m n ≡ false
 is_not_before m n h = grind (arith, nat_tests, h)
@@ -196,12 +169,7 @@ cells-go-on left start all line p s t out next h before given =
 
 pub cells-end : {P O : Type 0} (left : P → O → List Item → Type 0) (start : O) (all : EventOutcome) (line : ℕ) (p : Phrase (List ℕ)) (s t : Formatting)
     (out last : O) → has_tab p ≡ false → CellsLeft left start all line p s out → GivesOutcome left out (cell line p s) last t → GivesOutcome left start all last t
-cells-end left start all line p s t out last h before given =
-    let same = last-cell before.room line p s h in
-    record {
-      came = λ plan rest x. given.came plan rest (rw same at (before.came plan rest x));
-      state = given.state ∙ sym (before.state ∙ ap (λ (o : EventOutcome). o.state) same);
-    }
+cells-end left start all line p s t out last h before given = grind (arith, last-cell)
 
 -- ---- white space, byte by byte
 
@@ -213,11 +181,4 @@ pub record OutcomeLeft {P O : Type 0} (left : P → O → List Item → Type 0) 
 pub white-goes-on : {P O : Type 0} (left : P → O → List Item → Type 0) (start : O) (all : EventOutcome) (byte : ℕ) (bytes : List ℕ) (s t : Formatting)
     (out next : O) → OutcomeLeft left start all (white_columns (byte ∷ bytes) s) out → GivesOutcome left out (if byte == 9 then tab_step s else nothing s) next t
     → OutcomeLeft left start all (white_columns bytes t) next
-white-goes-on left start all byte bytes s t out next before given =
-    let first = (if byte == 9 then tab_step s else nothing s) in
-    let others = white_columns bytes first.state in
-    rw given.state (record {
-      came = λ plan rest x.
-          given.came plan (others.items ++ rest) (subst (λ items. left plan out items) (append_assoc first.items others.items rest) (before.came plan rest x));
-      state = before.state;
-    })
+white-goes-on left start all byte bytes s t out next before given = grind arith
