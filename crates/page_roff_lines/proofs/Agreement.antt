@@ -38,10 +38,7 @@ onto_first-none b (p ∷ ps) h e = (no_newline_cons b p h e.0, e.1)
 
 slice_split-none : (bs : List ℕ) → NoNewlines (slice_split (λ b. b == newline) bs)
 slice_split-none [] = ((λ k d l. absurd (omega arith)), tt)
-slice_split-none (b ∷ bs) = elim (eqb_tells b newline) [
-  | inl is ↦ rw is.0 ((λ k d l. absurd (omega arith)), slice_split-none bs)
-  | inr n ↦ rw n.0 (onto_first-none b _ n.0 (slice_split-none bs))
-]
+slice_split-none (b ∷ bs) = grind (arith, eqb_tells, slice_split-none bs, onto_first-none)
 
 -- texts in front of a line, one after the other
 join_texts-join_texts : (n p : ℕ) (s t : List ℕ) (ls : List Logical) → join_texts n s (join_texts p t ls) ≡ join_texts n (s ++ t) ls
@@ -70,9 +67,7 @@ lines_from-nothing t n p k a = refl
 lines_from-byte : (t : Held) (n p k : ℕ) (a : Mark) (b : ℕ) (bs : List ℕ)
     → lines_from (any true Plain t false false n p k a) (b ∷ bs) ≡ lines_from (st Plain nothing_held false false p p k a) (b ∷ bs)
 unfolding restart
-lines_from-byte t n p k a b bs =
-    ap (λ (ws : List KeptLine). ws ++ last_line (open_after (any true Plain t false false n p k a) (b ∷ bs))) (whole_lines-restart true Plain t false false n p k a (b ∷ bs))
-    ∙ ap (λ (q : Open). whole_lines (st Plain nothing_held false false p p k a) (b ∷ bs) ++ last_line q) (open_after-restart true Plain t false false n p k a b bs)
+lines_from-byte t n p k a b bs = grind (arith, any, whole_lines-restart, st, open_after-restart)
 
 lines_from-whole : (t : Held) (n p k : ℕ) (a : Mark) (bs : List ℕ)
     → lines_from (any true Plain t false false n p k a) bs ≡ lines_from (st Plain nothing_held false false p p k a) bs
@@ -83,7 +78,7 @@ lines_from-whole t n p k a (b ∷ bs) = lines_from-byte t n p k a b bs
 line-then : (o next : Open) (y rest : List ℕ) → whole_lines o y ≡ [] → next_open (open_after o y) newline ≡ next
     → lines_from o (y ++ newline ∷ rest) ≡ if_whole next ++ lines_from next rest
 unfolding open_after whole_lines
-line-then o next y rest none e = rw (whole_lines-append o y (newline ∷ rest), none, open_after-append o y (newline ∷ rest), e, append_assoc) refl
+line-then o next y rest none e = grind (arith, whole_lines-append, open_after-append, append_assoc)
 
 lines_from-line : (a : Mark) (n p k : ℕ) (text y rest : List ℕ) → is_settled a ≡ true → NoNewline y
     → lines_from (at a n p plain text k) (y ++ newline ∷ rest)
@@ -132,11 +127,8 @@ one_line false n p s t = refl
 
 goes-last : Goes []
 unfolding join_texts logical_lines read
-goes-last a n p k text [] h e f =
-    lines_from-last a n p k text [] h e ∙ ap (λ t. keep (record { number = n; text = t }) ∷ []) (append-nil text)
-goes-last a n p k text (b ∷ y) h e f =
-    lines_from-last a n p k text (b ∷ y) h e
-    ∙ rw (eqb-suc-zero (length y)) (sym (ap (λ ls. map keep ls) (one_line (read (b ∷ y)).joins n p text (read (b ∷ y)).text)))
+goes-last a n p k text [] h e f = grind (arith, lines_from-last, append-nil)
+goes-last a n p k text (b ∷ y) h e f = grind (arith, lines_from-last, eqb-suc-zero, one_line)
 
 -- a physical line is joined to the next, or ends its line
 goes-line : (z : List ℕ) (zs : List (List ℕ)) → Goes zs → Begins zs → (a : Mark) (n p k : ℕ) (text : List ℕ) (c : Bool) (t : List ℕ) → is_settled a ≡ true
@@ -149,15 +141,11 @@ goes-line z zs go be a n p k text true t h e f =
     ap (λ l. lines_from (any false Plain (hold l) false true n (p + 1) k a) (join_with_byte newline (z ∷ zs))) (sym (append-nil (text ++ t)))
     ∙ go a n (p + 1) k (text ++ t) z h e f
     ∙ sym (ap (λ ls. map keep ls) (join_texts-join_texts n p text t (logical_lines (p + 1) (lines_of_parts (z ∷ zs)))))
-goes-line z zs go be a n p k text false t h e f =
-    ap (λ ls. keep (record { number = n; text = text ++ t }) ∷ ls)
-    (lines_from-whole (hold (text ++ t)) n (p + 1) k a (join_with_byte newline (z ∷ zs)) ∙ be a (p + 1) k z h e f)
+goes-line z zs go be a n p k text false t h e f = grind (arith, lines_from-whole)
 
 goes-more : (z : List ℕ) (zs : List (List ℕ)) → Goes zs → Begins zs → Goes (z ∷ zs)
 unfolding logical_lines
-goes-more z zs go be a n p k text y h e f =
-    lines_from-line a n p k text y (join_with_byte newline (z ∷ zs)) h e
-    ∙ goes-line z zs go be a n p (k + length y + 1) text (read (strip_carriage_return y)).joins (read (strip_carriage_return y)).text h f.0 f.1
+goes-more z zs go be a n p k text y h e f = grind (arith, lines_from-line, goes-line)
 
 -- an empty physical line
 empty_line : (a : Mark) (p k : ℕ) → is_settled a ≡ true
@@ -183,11 +171,7 @@ begins-last a p k (b ∷ y) h e f = begins-byte [] goes-last a p k b y h e f
 
 begins-more : (z : List ℕ) (zs : List (List ℕ)) → Goes zs → Begins zs → Begins (z ∷ zs)
 unfolding whole_lines if_whole logical_lines read open_after
-begins-more z zs go be a p k [] h e f =
-    line-then (st Plain nothing_held false false p p k a) _ [] (join_with_byte newline (z ∷ zs)) refl (empty_line a p k h)
-    ∙ ap (λ ls. kept_of (any true Plain nothing_held false false p (p + 1) (k + 1) a) ∷ ls)
-    (lines_from-whole nothing_held p (p + 1) (k + 1) a (join_with_byte newline (z ∷ zs)) ∙ be a (p + 1) (k + 1) z h f.0 f.1)
-    ∙ rw (take-nil line_limit) refl
+begins-more z zs go be a p k [] h e f = grind (arith, line-then, st, empty_line, any, lines_from-whole, take-nil)
 begins-more z zs go be a p k (b ∷ y) h e f = begins-byte (z ∷ zs) (goes-more z zs go be) a p k b y h e f
 
 pub goes : (more : List (List ℕ)) → Goes more × Begins more

@@ -39,21 +39,7 @@ text-free xs i n most above = λ k below.
 
 -- a pair
 pub pair-free : (xs : List ℕ) (i : ℕ) → is_quiet (get_or xs (i + 1) 0) ≡ true → IsFreeTo i xs → IsFreeTo (i + 2) xs
-pair-free xs i quiet above = λ k below.
-    let b = get_or xs (i + 1) 0 in
-    let parts = and_true (not (is_key b)) (not (is_backslash b)) quiet in
-    elim (cases_lt k i) [
-      | inl early ↦ above k early
-      | inr late ↦
-          elim (cases_lt k (i + 1)) [
-            | inl first ↦
-                let here : k + 1 ≡ i + 1 = omega arith in
-                not_second (is_backslash (get_or xs k 0)) _ (ap (λ j. is_key (get_or xs j 0)) here ∙ other (is_key b) parts.0)
-            | inr second ↦
-                let here : k ≡ i + 1 = omega arith in
-                not_first (is_backslash (get_or xs k 0)) _ (ap (λ j. is_backslash (get_or xs j 0)) here ∙ other (is_backslash b) parts.1)
-          ]
-    ]
+pair-free xs i quiet above = grind (arith, get_or, and_true, cases_lt, not_second, other, not_first)
 
 -- up to the first stop of a vector
 pub free-stop : (xs : List ℕ) (i n : ℕ) → i + n ≤ length xs → n ≤ 64 → 0 < stops_from xs i n → IsFreeTo i xs
@@ -70,9 +56,7 @@ free-through xs i n room none above =
 
 -- the bytes before a place
 pub front-free : (xs : List ℕ) (n : ℕ) → n ≤ length xs → IsFreeTo n xs → IsFreeLine (take n xs)
-front-free xs n within h = λ k l.
-    let len = length-take-le n xs within in
-    rw (get_or-take n xs k 0 (omega (arith, len)), get_or-take n xs (k + 1) 0 (omega (arith, len))) (h k (omega (arith, len)))
+front-free xs n within h = grind (arith, length-take-le, get_or-take)
 
 -- the front of a line
 pub less-free : (xs : List ℕ) (n : ℕ) → IsFreeLine xs → IsFreeLine (take n xs)

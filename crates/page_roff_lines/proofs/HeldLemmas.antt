@@ -11,14 +11,10 @@ take-append-room n xs ys h =
     ap (λ k. take k (xs ++ ys)) e ∙ take-append-add xs ys (n - length xs)
 
 pub take-append-one : (n : ℕ) (xs : List ℕ) (y : ℕ) → length xs < n → take n (xs ++ y ∷ []) ≡ xs ++ y ∷ []
-take-append-one n xs y h =
-    let g : 1 ≤ n - length xs = omega arith in
-    take-append-room n xs (y ∷ []) (omega arith) ∙ ap (λ l. xs ++ l) (take_all (n - length xs) (y ∷ []) g)
+take-append-one n xs y h = grind (arith, take-append-room, take_all)
 
 pub take-append-full : (n : ℕ) (xs ys : List ℕ) → length xs ≤ n → n ≤ length xs → take n (xs ++ ys) ≡ xs
-take-append-full n xs ys h g =
-    let e : n - length xs ≡ 0 = omega arith in
-    take-append-room n xs ys h ∙ ap (λ k. xs ++ take k ys) e ∙ append-nil xs
+take-append-full n xs ys h g = grind (arith, take-append-room, append-nil)
 
 -- a result that is known to be a value
 pub if_ok : {T E X : Type 0} (r : Result T E) (x y : X) → IsOk r → cond (is_ok r) x y ≡ x

@@ -1,5 +1,5 @@
 -- The decoded lines of a page are those that its bytes give one by one.
-use Rattle.std.proofs.Common.{◌≡◌, ℕ, Bool, true, false, cond, List, [], ◌∷◌, ◌++◌, map, take, refl, sym, ap, ◌∙◌, append_assoc, inl, inr}
+use Rattle.std.proofs.Common.{◌≡◌, ℕ, Bool, true, false, cond, List, [], ◌∷◌, ◌++◌, map, take, refl, sym, ap, ◌∙◌, append_assoc, inl, inr, arith}
 use Rattle.std.specs.Prelude.{◌==◌, nat_lt, nat_eq, if◌then◌else◌}
 use lib.Pointwise.{pointwise}
 use borrow.Author.Tests.{ne_eqb}
@@ -58,11 +58,7 @@ first_decides : (k : KeptLine) (ks : List KeptLine) → decode_all Auto false ks
 first_decides k ks rest Ascii h = ap (λ ls. decode_line Ascii k ∷ ls) (known Ascii false ks (λ c. refl))
 first_decides k ks rest Latin1 h = ap (λ ls. decode_line Latin1 k ∷ ls) (known Latin1 false ks (λ c. refl))
 first_decides k ks rest Utf8 h = ap (λ ls. decode_line Utf8 k ∷ ls) (known Utf8 false ks (λ c. refl))
-first_decides k ks rest Auto h =
-    let e = choice_of_lines ks in
-    let head : decode_line Auto k ∷ decode_all Auto false ks ≡ decode_line e k ∷ decode_all Auto false ks =
-    ap (λ l. l ∷ decode_all Auto false ks) (decode_line-low Auto e k h) in
-    head ∙ ap (λ ls. decode_line e k ∷ ls) rest
+first_decides k ks rest Auto h = grind (arith, decode_line-low)
 
 -- the encoding of the page is that of each line, as far as the line depends on it
 decode_all-page : (e : Encoding) (m : Bool) (ks : List KeptLine) → decode_all e m ks ≡ map (decode_line (or_else e (if m then Utf8 else choice_of_lines ks))) ks
@@ -111,10 +107,7 @@ settled_by_newline _ = refl
 
 -- where a line is whole, the page's first bytes were read
 whole-settled : (o : Open) (b : ℕ) → (next_open o b).whole ≡ true → is_settled (next_open o b).mark ≡ true
-whole-settled o b w = elim (eqb_tells b newline) [
-  | inl is ↦ rw (next_open-mark o b, is.1) (settled_by_newline o.mark)
-  | inr n ↦ let no = next_open-whole o b n.0 in cc
-]
+whole-settled o b w = grind (arith, eqb_tells, next_open-mark, settled_by_newline, next_open-whole)
 
 mark_after-settled : (m : Mark) (b : ℕ) → is_settled m ≡ true → mark_after m b ≡ m
 unfolding mark_after
@@ -144,10 +137,7 @@ end_in-mark Backslash false o = refl
 
 end_open-mark : (o : Open) → (end_open o).mark ≡ o.mark
 unfolding end_open restart close
-end_open-mark o =
-    let r : Open = restart o in
-    let same : r.mark ≡ o.mark = either-mark o.whole _ _ o.mark refl refl in
-    either-mark r.begun _ _ o.mark (end_in-mark r.mode r.after_return r ∙ same) same
+end_open-mark o = grind (arith, either-mark, end_in-mark)
 
 -- lines one by one are the raw lines, each decoded in turn
 abbrev marked_at_end : Open → List ℕ → Bool
@@ -164,7 +154,7 @@ unfolding line_at point_at if_whole
 one-decode_line e o = one-by e o o.whole
 
 last-decode_line : (e : Encoding) (o : Open) → line_at (point_at e (end_open o)) ≡ decode_all e (is_marked o.mark) (if_whole (end_open o))
-last-decode_line e o = one-decode_line e (end_open o) ∙ ap (λ m. decode_all e (is_marked m) (if_whole (end_open o))) (end_open-mark o)
+last-decode_line e o = grind (arith, one-decode_line, end_open-mark)
 
 step-by : (e : Encoding) (o : Open) (bs : List ℕ) (w : Bool) → (w ≡ true → is_settled o.mark ≡ true)
     → ((f : Encoding) → lines_from (open_point f o) bs ≡ decode_all f (marked_at_end o bs) (raw_lines_from o bs))
@@ -172,11 +162,7 @@ step-by : (e : Encoding) (o : Open) (bs : List ℕ) (w : Bool) → (w ≡ true �
     ≡ decode_all e (marked_at_end o bs) (cond w (kept_of o ∷ []) [] ++ raw_lines_from o bs)
 unfolding encoding_after
 step-by e o bs false settles rest = rest e
-step-by e o bs true settles rest =
-    let f : Bool → Encoding = λ m. or_else e (cond m Utf8 (choice_of o.text.bytes)) in
-    let same : is_marked o.mark ≡ marked_at_end o bs = ap (λ m. is_marked m) (sym (open_after-mark o bs (settles refl))) in
-    ap (λ ls. decode_line (f (is_marked o.mark)) (kept_of o) ∷ ls) (rest (f (is_marked o.mark)))
-    ∙ ap (λ m. decode_line (f m) (kept_of o) ∷ decode_all (f m) (marked_at_end o bs) (raw_lines_from o bs)) same
+step-by e o bs true settles rest = grind (arith, cond, open_after-mark)
 
 step-decode_line : (e : Encoding) (o : Open) (bs : List ℕ) → (o.whole ≡ true → is_settled o.mark ≡ true)
     → ((f : Encoding) → lines_from (open_point f o) bs ≡ decode_all f (marked_at_end o bs) (raw_lines_from o bs))
@@ -216,48 +202,29 @@ marks-present (b ∷ bs) = marks-present bs
 marks-third : (bs : List ℕ) → is_marked (marks Second bs) ≡ pointwise nat_eq (0xBF ∷ []) (take 1 bs)
 unfolding mark_after
 marks-third [] = refl
-marks-third (b ∷ bs) = elim (eqb_tells b 0xBF) [
-  | inl is ↦ rw is.1 (ap (λ m. is_marked m) (marks-present bs))
-  | inr n ↦ rw (n.0, ne_eqb 0xBF b (λ e. n.1 (sym e))) (ap (λ m. is_marked m) (marks-absent bs))
-]
+marks-third (b ∷ bs) = grind (arith, eqb_tells, marks-present, marks-absent)
 
 marks-second : (bs : List ℕ) → is_marked (marks First bs) ≡ pointwise nat_eq (0xBB ∷ 0xBF ∷ []) (take 2 bs)
 unfolding mark_after
 marks-second [] = refl
-marks-second (b ∷ bs) = elim (eqb_tells b 0xBB) [
-  | inl is ↦ rw is.1 (marks-third bs)
-  | inr n ↦ rw (n.0, ne_eqb 0xBB b (λ e. n.1 (sym e))) (ap (λ m. is_marked m) (marks-absent bs))
-]
+marks-second (b ∷ bs) = grind (arith, eqb_tells, marks-third, marks-absent)
 
 marks-first : (bs : List ℕ) → is_marked (marks Unread bs) ≡ has_mark bs
 unfolding mark_after
 marks-first [] = refl
-marks-first (b ∷ bs) = elim (eqb_tells b 0xEF) [
-  | inl is ↦ rw is.1 (marks-second bs)
-  | inr n ↦ rw (n.0, ne_eqb 0xEF b (λ e. n.1 (sym e))) (ap (λ m. is_marked m) (marks-absent bs))
-]
+marks-first (b ∷ bs) = grind (arith, eqb_tells, marks-second, marks-absent)
 
 is_marked-open_after : (bs : List ℕ) → marked_at_end first_open bs ≡ has_mark bs
 is_marked-open_after bs = ap (λ m. is_marked m) (open_after-marks first_open bs) ∙ marks-first bs
 
 -- the lines of a page by their definition are those that its bytes give one by one
 pub lines-one_by_one : (set : Encoding) (bytes : List ℕ) → lines set bytes ≡ lines_from (first_point set) bytes
-lines-one_by_one set bytes =
-    sym (all-decode_line set first_open bytes
-    ∙ ap (λ m. decode_all set m (raw_lines_from first_open bytes)) (is_marked-open_after bytes)
-    ∙ ap (λ ks. decode_all set (has_mark bytes) ks) (sym (kept_lines-one_by_one bytes))
-    ∙ decode_all-page set (has_mark bytes) (kept_lines bytes))
+lines-one_by_one set bytes = grind (arith, all-decode_line, is_marked-open_after, kept_lines-one_by_one, decode_all-page)
 
 -- a page cut anywhere
 pub lines-cut : (set : Encoding) (above below : List ℕ)
     → lines set (above ++ below) ≡ lines_within (first_point set) above ++ lines_from (point_after (first_point set) above) below
-lines-cut set above below =
-    let p = first_point set in
-    let q = point_after p above in
-    lines-one_by_one set (above ++ below)
-    ∙ ap (λ ls. ls ++ line_at (end_point (point_after p (above ++ below)))) (lines_within-append p above below)
-    ∙ ap (λ (r : Point). (lines_within p above ++ lines_within q below) ++ line_at (end_point r)) (point_after-append p above below)
-    ∙ append_assoc (lines_within p above) (lines_within q below) (line_at (end_point (point_after q below)))
+lines-cut set above below = grind (arith, lines-one_by_one, lines_within-append, point_after-append, append_assoc)
 
 -- bytes that were read after those that came before
 pub fed-of_page : (p q : Point) (more : List ℕ) (given : List Line) → q ≡ point_after p more → lines_within p more ≡ given
@@ -278,6 +245,4 @@ fed-of_page p q more given after came set bytes at =
 -- the page ends at a point
 pub ended-of_page : (p : Point) (given : List Line) → line_at (end_point p) ≡ given
     → (set : Encoding) (bytes : List ℕ) → IsAfter p set bytes → lines set bytes ≡ lines_within (first_point set) bytes ++ given
-ended-of_page p given came set bytes at =
-    lines-one_by_one set bytes
-    ∙ ap (λ ls. lines_within (first_point set) bytes ++ ls) (ap (λ o. line_at (end_point o)) (sym at) ∙ came)
+ended-of_page p given came set bytes at = grind (arith, lines-one_by_one)

@@ -29,9 +29,7 @@ line-any : (m : Mode) (t : Held) (r g : Bool) (n p k : ℕ) (a : Mark) (b : ℕ)
     → next_open (with_run (restart (any true m t r g n p k a)) (b ∷ bs)) newline
     ≡ any true Plain (extend nothing_held (b ∷ bs)) false false p (p + 1) (k + (length (b ∷ bs) + 1)) a
 unfolding restart run_in
-line-any m t r g n p k a b bs e s h =
-    let count : k + suc (length bs) + 1 ≡ k + (suc (length bs) + 1) = omega arith in
-    rw (e, last-printable b bs h) (newline-st (extend nothing_held (b ∷ bs)) true p p (k + length (b ∷ bs)) a s ∙ rw count refl)
+line-any m t r g n p k a b bs e s h = grind (arith, last-printable, newline-st)
 
 line-some : (m : Mode) (t : Held) (r g : Bool) (n p k : ℕ) (a : Mark) (text : List ℕ) → m ≡ Plain → is_settled a ≡ true
     → 0 < length text → list_all is_printable text ≡ true

@@ -1,5 +1,5 @@
 -- A byte order mark is dropped, and a page that only begins like one has these bytes.
-use Rattle.std.proofs.Common.{◌≡◌, ℕ, Bool, true, false, cond, List, [], ◌∷◌, ◌++◌, map, take, drop, refl, sym, ap, ◌∙◌, inl, inr}
+use Rattle.std.proofs.Common.{◌≡◌, ℕ, Bool, true, false, cond, List, [], ◌∷◌, ◌++◌, map, take, drop, refl, sym, ap, ◌∙◌, inl, inr, arith}
 use Rattle.std.specs.Prelude.{nat_eq}
 use Rattle.std.specs.Str.Lines.{lines as physical_lines}
 use Rattle.std.proofs.lemmas.Bool.Decides.{eqb_tells}
@@ -40,33 +40,18 @@ third : (bs : List ℕ) → lines_from (after_two Second) bs
     ≡ cond (pointwise nat_eq (0xBF ∷ []) (take 1 bs)) (lines_from marked (drop 1 bs)) (lines_from (after_two Absent) bs)
 unfolding open_after whole_lines end_open end_in restart close if_whole next_open put_byte count_byte ends_mark mark_after
 third [] = refl
-third (b ∷ bs) = elim (eqb_tells b 0xBF) [
-  | inl is ↦ rw is.1 (by_open (after_two Second) marked 0xBF bs refl refl)
-  | inr n ↦ rw (ne_eqb 0xBF b (λ e. n.1 (sym e))) (by_first (after_two Second) (after_two Absent) b bs (rw n.0 refl))
-]
+third (b ∷ bs) = grind (arith, eqb_tells, by_open, by_first)
 
 second : (bs : List ℕ) → lines_from (after_one First) bs
     ≡ cond (pointwise nat_eq (0xBB ∷ 0xBF ∷ []) (take 2 bs)) (lines_from marked (drop 2 bs)) (lines_from (after_one Absent) bs)
 unfolding open_after whole_lines end_open end_in restart close if_whole next_open put_byte put_in put_plain put count_byte ends_mark mark_after
 second [] = refl
-second (b ∷ bs) = elim (eqb_tells b 0xBB) [
-  | inl is ↦ rw is.1
-      (by_open (after_one First) (after_two Second) 0xBB bs refl refl ∙ third bs
-      ∙ ap (λ ls. cond (pointwise nat_eq (0xBF ∷ []) (take 1 bs)) (lines_from marked (drop 1 bs)) ls)
-      (sym (by_open (after_one Absent) (after_two Absent) 0xBB bs refl refl)))
-  | inr n ↦ rw (ne_eqb 0xBB b (λ e. n.1 (sym e))) (by_first (after_one First) (after_one Absent) b bs (rw n.0 refl))
-]
+second (b ∷ bs) = grind (arith, eqb_tells, by_open, third, cond, by_first)
 
 first : (bs : List ℕ) → lines_from first_open bs ≡ cond (has_mark bs) (lines_from marked (drop 3 bs)) (lines_from unmarked bs)
 unfolding open_after whole_lines end_open end_in restart close if_whole next_open put_byte put_in put_plain put count_byte ends_mark mark_after
 first [] = refl
-first (b ∷ bs) = elim (eqb_tells b 0xEF) [
-  | inl is ↦ rw is.1
-      (by_open first_open (after_one First) 0xEF bs refl refl ∙ second bs
-      ∙ ap (λ ls. cond (pointwise nat_eq (0xBB ∷ 0xBF ∷ []) (take 2 bs)) (lines_from marked (drop 2 bs)) ls)
-      (sym (by_open unmarked (after_one Absent) 0xEF bs refl refl)))
-  | inr n ↦ rw (ne_eqb 0xEF b (λ e. n.1 (sym e))) (by_first first_open unmarked b bs (rw n.0 refl))
-]
+first (b ∷ bs) = grind (arith, eqb_tells, by_open, second, cond, by_first)
 
 either : (c : Bool) (xs ys : List ℕ)
     → cond c (lines_from marked xs) (lines_from unmarked ys) ≡ map keep (logical_lines 1 (physical_lines (cond c xs ys)))

@@ -19,9 +19,7 @@ open_after-append o (x ∷ xs) ys = open_after-append (next_open o x) xs ys
 pub whole_lines-append : (o : Open) (xs ys : List ℕ) → whole_lines o (xs ++ ys) ≡ whole_lines o xs ++ whole_lines (open_after o xs) ys
 unfolding open_after whole_lines
 whole_lines-append o [] ys = refl
-whole_lines-append o (x ∷ xs) ys =
-    ap (λ l. if_whole (next_open o x) ++ l) (whole_lines-append (next_open o x) xs ys)
-    ∙ sym (append_assoc (if_whole (next_open o x)) (whole_lines (next_open o x) xs) (whole_lines (open_after (next_open o x) xs) ys))
+whole_lines-append o (x ∷ xs) ys = grind (arith, whole_lines-append (next_open o x) xs ys, append_assoc)
 
 -- what only the bytes themselves change, and not how they are read: how many came, and how much of a mark
 abbrev part : Open → ℕ × Mark
@@ -59,9 +57,7 @@ put_byte-part false o b = either-part (b == newline) _ _ (part o) (put_newline-p
 
 next_open-part : (o : Open) (b : ℕ) → part (next_open o b) ≡ (o.consumed + 1, mark_after o.mark b)
 unfolding next_open count_byte
-next_open-part o b =
-    put_byte-part (ends_mark o.mark b) (count_byte (restart o) b) b
-    ∙ ap (λ (p : ℕ × Mark). (p.0 + 1, mark_after p.1 b)) (restart-part o)
+next_open-part o b = grind (arith, put_byte-part, restart-part)
 
 pub next_open-mark : (o : Open) (b : ℕ) → (next_open o b).mark ≡ mark_after o.mark b
 next_open-mark o b = ap (λ (p : ℕ × Mark). p.1) (next_open-part o b)
@@ -99,9 +95,7 @@ run-open_after o p q xs i n h g = g ∙ rw (rest_of xs i, h) (open_after-more o 
 
 pub run-none : (o p : Open) (xs : List ℕ) (i n : ℕ) → p ≡ open_after o (take i xs) → whole_lines o (take i xs) ≡ []
     → whole_lines p (take n (take (length xs - i) (drop i xs))) ≡ [] → whole_lines o (take (i + n) xs) ≡ []
-run-none o p xs i n h e g =
-    let none : whole_lines (open_after o (take i xs)) (take n (drop i xs)) ≡ [] = rw (← h, ← rest_of xs i) g in
-    rw (whole_lines-more o xs i n, e, none) refl
+run-none o p xs i n h e g = grind (arith, rest_of, whole_lines-more)
 
 -- one byte more of a chunk, with which the line is whole or not
 pub byte-open_after : (o p q : Open) (xs : List ℕ) (j : ℕ) → j < length xs → p ≡ open_after o (take j xs) → q ≡ next_open p (get_or xs j 0) → q ≡ open_after o (take (j + 1) xs)

@@ -66,29 +66,24 @@ letter_byte t g n p k _ b h s = cc
 pair-open_after : (t : Held) (r g : Bool) (n p k : ℕ) (a : Mark) (b : ℕ) → is_settled a ≡ true → Stays b
     → open_after (st Plain t r g n p k a) (backslash ∷ b ∷ []) ≡ with_run (st Plain t r g n p k a) (backslash ∷ b ∷ [])
 unfolding open_after run_in
-pair-open_after t r g n p k a b h s =
-    let count : k + 1 + 1 ≡ k + 2 = omega arith in
-    rw (escape_byte t r g n p k a h, letter_byte (extend t (backslash ∷ [])) true n p (k + 1) a b h s, extend-extend t (backslash ∷ []) (b ∷ []), s.no_return, count) refl
+pair-open_after t r g n p k a b h s = grind (arith, escape_byte, letter_byte, extend-extend)
 
 pair-none : (t : Held) (r g : Bool) (n p k : ℕ) (a : Mark) (b : ℕ) → is_settled a ≡ true → Stays b
     → whole_lines (st Plain t r g n p k a) (backslash ∷ b ∷ []) ≡ []
 unfolding whole_lines if_whole
-pair-none t r g n p k a b h s =
-    rw (escape_byte t r g n p k a h, letter_byte (extend t (backslash ∷ [])) true n p (k + 1) a b h s) refl
+pair-none t r g n p k a b h s = grind (arith, escape_byte, letter_byte)
 
 any-open_after : (w : Bool) (m : Mode) (t : Held) (r g : Bool) (n p k : ℕ) (a : Mark) (b : ℕ) → m ≡ Plain → is_settled a ≡ true → Stays b
     → open_after (any w m t r g n p k a) (backslash ∷ b ∷ []) ≡ with_run (restart (any w m t r g n p k a)) (backslash ∷ b ∷ [])
 unfolding restart
 any-open_after false m t r g n p k a b e h s = rw e (pair-open_after t r g n p k a b h s)
-any-open_after true m t r g n p k a b e h s =
-    open_after-restart true m t r g n p k a backslash (b ∷ []) ∙ rw e (pair-open_after nothing_held r g p p k a b h s)
+any-open_after true m t r g n p k a b e h s = grind (arith, open_after-restart, pair-open_after)
 
 any-none : (w : Bool) (m : Mode) (t : Held) (r g : Bool) (n p k : ℕ) (a : Mark) (b : ℕ) → m ≡ Plain → is_settled a ≡ true → Stays b
     → whole_lines (any w m t r g n p k a) (backslash ∷ b ∷ []) ≡ []
 unfolding restart
 any-none false m t r g n p k a b e h s = rw e (pair-none t r g n p k a b h s)
-any-none true m t r g n p k a b e h s =
-    whole_lines-restart true m t r g n p k a (backslash ∷ b ∷ []) ∙ rw e (pair-none nothing_held r g p p k a b h s)
+any-none true m t r g n p k a b e h s = grind (arith, whole_lines-restart, pair-none)
 
 -- the first two of some bytes
 pub front_two : (bytes : List ℕ) → BeginsPair bytes → take 2 bytes ≡ backslash ∷ get_or bytes 1 0 ∷ []

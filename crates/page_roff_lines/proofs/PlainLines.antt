@@ -19,8 +19,4 @@ pub decode_line-plain : (e : Encoding) (k : KeptLine) → list_all is_printable 
     → ((decode_line e k).text ≡ k.text) × ((decode_line e k).notes ≡ limit_notes k.cut k.number)
 unfolding decode_line
 decode_line-plain e k plain short =
-    let chars = characters-plain e k.text plain in
-    let stay = characters_within-singles line_limit k.text short in (
-      rw (chars, stay) (all_bytes-singles k.text),
-      rw (chars, stay, below_itself (length (singles k.text)), or_false k.cut, bad_notes-singles k.number 1 k.text) (append-nil (limit_notes k.cut k.number)),
-    )
+    grind (arith, characters-plain, characters_within-singles, all_bytes-singles, below_itself, singles, or_false, bad_notes-singles, append-nil)

@@ -16,9 +16,7 @@ point_after-append p (x ∷ xs) ys = point_after-append (next_point p x) xs ys
 pub lines_within-append : (p : Point) (xs ys : List ℕ) → lines_within p (xs ++ ys) ≡ lines_within p xs ++ lines_within (point_after p xs) ys
 unfolding point_after lines_within
 lines_within-append p [] ys = refl
-lines_within-append p (x ∷ xs) ys =
-    ap (λ l. line_at (next_point p x) ++ l) (lines_within-append (next_point p x) xs ys)
-    ∙ sym (append_assoc (line_at (next_point p x)) (lines_within (next_point p x) xs) (lines_within (point_after (next_point p x) xs) ys))
+lines_within-append p (x ∷ xs) ys = grind (arith, lines_within-append (next_point p x) xs ys, append_assoc)
 
 nil-append : {X : Type 0} (xs ys : List X) → xs ++ ys ≡ [] → (xs ≡ []) × (ys ≡ [])
 nil-append [] ys h = (refl, h)
@@ -79,14 +77,7 @@ point_after-one : (p : Point) (bs : List ℕ) (b : ℕ) (o : Open) → whole_lin
     → (point_after p (bs ++ b ∷ []) ≡ whole_point p.encoding o) × (lines_within p (bs ++ b ∷ []) ≡ line_of (whole_point p.encoding o) ∷ [])
 unfolding point_after lines_within
 point_after-one p bs b o h is w =
-    let none = point_after-none p.encoding p.line bs h in
-    let next : o ≡ next_open (open_after p.line bs) b = is ∙ open_after-one p.line bs b in
-    let w2 : (next_open (open_after p.line bs) b).whole ≡ true = sym (ap (λ (o : Open). o.whole) next) ∙ w in
-    let after = next_point-whole p.encoding (open_after p.line bs) b w2 in
-    let last : point_after (point_after p bs) (b ∷ []) ≡ whole_point p.encoding o = rw (none.0, after) (ap (λ q. whole_point p.encoding q) (sym next)) in
-    let line : lines_within (point_after p bs) (b ∷ []) ≡ line_of (whole_point p.encoding o) ∷ [] =
-    rw (none.0, after, ← next, append-nil) (line_at-whole (whole_point p.encoding o) w) in
-    (point_after-append p bs (b ∷ []) ∙ last, lines_within-append p bs (b ∷ []) ∙ rw (none.1) line)
+    grind (arith, point_after-none, open_after-one, next_point-whole, append-nil, line_at-whole, point_after-append, lines_within-append)
 
 nothing_whole : (o : Open) (k : KeptLine) → whole_lines o [] ≡ k ∷ [] → ⊥
 unfolding whole_lines
@@ -117,23 +108,14 @@ pub end_point-is : (p : Point) (w : Bool) (o : Open) → o ≡ end_open p.line �
     → let q : Point = record { line = o; encoding = cond w (encoding_after p.encoding o) p.encoding } in
     (q ≡ end_point p) × (line_at q ≡ cond w (line_of q ∷ []) [])
 unfolding end_point point_at line_at
-end_point-is p w o is whole =
-    let q : Point = record { line = o; encoding = cond w (encoding_after p.encoding o) p.encoding } in (
-      ap (λ c. record { line = o; encoding = cond c (encoding_after p.encoding o) p.encoding }) whole
-          ∙ ap (λ (o : Open). record { line = o; encoding = cond o.whole (encoding_after p.encoding o) p.encoding }) is,
-      ap (λ c. cond c (line_of q ∷ []) []) (sym whole),
-    )
+end_point-is p w o is whole = grind (arith, cond)
 
 -- the point of a cutter for which no line waits
 pub free_point : (v : Cutting) (o : Open) (e : Encoding) (r : Bool) (t : List ℕ)
     → record { point = record { line = o; encoding = cond r (encoding_after e o) e }; ready = r; text = t } ≡ v → v.ready ≡ false → v.point ≡ open_point e o
-free_point v o e r t is free =
-    let no : r ≡ false = ap (λ (v : Cutting). v.ready) is ∙ free in
-    sym (ap (λ (v : Cutting). v.point) is) ∙ ap (λ c. record { line = o; encoding = cond c (encoding_after e o) e }) no
+free_point v o e r t is free = grind (arith, cond)
 
 -- the point of a cutter for which one does
 pub waiting_point : (v : Cutting) (o : Open) (e : Encoding) (r : Bool) (t : List ℕ)
     → record { point = record { line = o; encoding = cond r (encoding_after e o) e }; ready = r; text = t } ≡ v → v.ready ≡ true → v.point ≡ whole_point e o
-waiting_point v o e r t is waits =
-    let yes : r ≡ true = ap (λ (v : Cutting). v.ready) is ∙ waits in
-    sym (ap (λ (v : Cutting). v.point) is) ∙ ap (λ c. record { line = o; encoding = cond c (encoding_after e o) e }) yes
+waiting_point v o e r t is waits = grind (arith, cond)

@@ -31,17 +31,13 @@ pub text-pair : (bytes : List ℕ) → BeginsPair bytes → IsText (take 2 bytes
 text-pair bytes h = λ o t. record { after = λ _. open_after-pair o bytes t h; none = whole_lines-pair o bytes t h }
 
 last-append : (xs ys : List ℕ) → 0 < length ys → last_of (xs ++ ys) ≡ last_of ys
-last-append xs ys some =
-    let place : length (xs ++ ys) - 1 ≡ length xs + (length ys - 1) = omega (arith, length-append xs ys) in
-    rw place (get_or-append-add xs ys (length ys - 1) 0)
+last-append xs ys some = grind (arith, length-append, get_or-append-add)
 
 -- one after the other, at a line that is not whole
 twice-st : (t : Held) (r g : Bool) (n p k : ℕ) (a : Mark) (xs ys : List ℕ) → 0 < length ys
     → with_run (with_run (st Plain t r g n p k a) xs) ys ≡ with_run (st Plain t r g n p k a) (xs ++ ys)
 unfolding run_in
-twice-st t r g n p k a xs ys some =
-    let count : k + length (xs ++ ys) ≡ k + length xs + length ys = omega (arith, length-append xs ys) in
-    rw (extend-extend t xs ys, last-append xs ys some, count) refl
+twice-st t r g n p k a xs ys some = grind (arith, length-append, extend-extend, last-append)
 
 append-st : (t : Held) (r g : Bool) (n p k : ℕ) (a : Mark) → is_settled a ≡ true → (xs ys : List ℕ) → IsText xs → IsText ys
     → IsRead (st Plain t r g n p k a) (xs ++ ys)
@@ -108,20 +104,12 @@ pair-more xs i n le f pair within run =
     )
 
 pub pair-printable : (bytes : List ℕ) → BeginsPair bytes → list_all is_printable (take 2 bytes) ≡ true
-pair-printable bytes h =
-    let b = get_or bytes 1 0 in
-    let is = and_true (is_printable b) (not (b == quote) && not (b == hash)) h.stays in
-    rw (front_two bytes h, is.0) refl
+pair-printable bytes h = grind (arith, get_or, and_true, front_two)
 
 pub printable-more : (xs : List ℕ) (i n : ℕ) → list_all is_printable (take i xs) ≡ true → BeginsPair (take (length xs - i) (drop i xs))
     → list_all is_printable (take n (take (length xs - (i + 2)) (drop (i + 2) xs))) ≡ true
     → list_all is_printable (take (i + 2 + n) xs) ≡ true
-printable-more xs i n above pair below =
-    let pair_at = rw (rest_of xs i) at pair in
-    let below_at = rw (rest_of xs (i + 2)) at below in
-    rw (take-add (i + 2) n xs, take-add i 2 xs)
-    (all-append is_printable (take i xs ++ take 2 (drop i xs)) (take n (drop (i + 2) xs))
-    (all-append is_printable (take i xs) (take 2 (drop i xs)) above (pair-printable (drop i xs) pair_at)) below_at)
+printable-more xs i n above pair below = grind (arith, rest_of, take-add, all-append, pair-printable)
 
 -- what comes before a line feed, in a comment or after one that drops its line feed
 pub comment-read : (o : Open) (ys : List ℕ) (n : ℕ) → is_settled o.mark ≡ true → (o.mode ≡ Comment) ⊎ (o.mode ≡ Dropped) → n ≤ length ys

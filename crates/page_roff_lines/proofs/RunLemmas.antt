@@ -55,18 +55,14 @@ take-take-append (suc n) (x ∷ xs) ys = ap (λ l. x ∷ l) (take-take-append n 
 
 pub extend-extend : (t : Held) (xs ys : List ℕ) → extend (extend t xs) ys ≡ extend t (xs ++ ys)
 unfolding extend
-extend-extend t xs ys =
-    rw (take-take-append line_limit (t.bytes ++ xs) ys, append_assoc t.bytes xs ys, length-append xs ys, add_assoc t.total (length xs) (length ys)) refl
+extend-extend t xs ys = grind (arith, take-take-append, append_assoc, length-append, add_assoc)
 
 -- the last byte of a list
 abbrev pub last_of : List ℕ → ℕ
 last_of run = get_or run (length run - 1) 0
 
 last_more : (b c : ℕ) (bs : List ℕ) → last_of (b ∷ c ∷ bs) ≡ last_of (c ∷ bs)
-last_more b c bs =
-    let long : suc (suc (length bs)) - 1 ≡ suc (length bs) = omega arith in
-    let short : suc (length bs) - 1 ≡ length bs = omega arith in
-    rw (long, short) refl
+last_more b c bs = grind arith
 
 -- in this mode a byte that passes is kept
 abbrev KeepsByte : Mode → ℕ → ℕ → Mark → (ℕ → Bool) → Type 0
@@ -154,15 +150,13 @@ any-open_after : (w : Bool) (m : Mode) (t : Held) (r g : Bool) (n p k : ℕ) (a 
 unfolding restart
 any-open_after w m t r g n p k a [] some is = absurd (omega arith)
 any-open_after false m t r g n p k a (b ∷ bs) some is = run-open_after m t r g n p k a b bs record { settled = is.settled; bytes = is.bytes }
-any-open_after true m t r g n p k a (b ∷ bs) some is =
-    open_after-restart true m t r g n p k a b bs ∙ run-open_after m nothing_held r g p p k a b bs record { settled = is.settled; bytes = is.bytes }
+any-open_after true m t r g n p k a (b ∷ bs) some is = grind (arith, open_after-restart, run-open_after)
 
 any-none : (w : Bool) (m : Mode) (t : Held) (r g : Bool) (n p k : ℕ) (a : Mark) (run : List ℕ) → IsRun (any w m t r g n p k a) run
     → whole_lines (any w m t r g n p k a) run ≡ []
 unfolding restart
 any-none false m t r g n p k a run is = run-none m t r g n p k a run record { settled = is.settled; bytes = is.bytes }
-any-none true m t r g n p k a run is =
-    whole_lines-restart true m t r g n p k a run ∙ run-none m nothing_held r g p p k a run record { settled = is.settled; bytes = is.bytes }
+any-none true m t r g n p k a run is = grind (arith, whole_lines-restart, run-none)
 
 pub open_after-run : (o : Open) (run : List ℕ) → 0 < length run → IsRun o run → open_after o run ≡ with_run (restart o) run
 open_after-run o run some is = any-open_after o.whole o.mode o.text o.after_return o.begun o.number o.physical o.consumed o.mark run some is

@@ -45,46 +45,25 @@ after_two text b c r = rw append_assoc refl
 plain_reading : (f : List ℕ → List ℕ) → TakesReturn f → (text : List ℕ) (b : ℕ) (ys : List ℕ)
     → upon text (read (f (b ∷ ys))) ≡ upon (next_text plain text b) (whole_of f (next plain b) ys)
 unfolding read read_pair
-plain_reading f t text b ys =
-    by_byte (λ b. upon text (read (f (b ∷ ys))) ≡ upon (next_text plain text b) (whole_of f (next plain b) ys))
-    refl
-    (rw (t.other quote ys refl) (after_other text quote (read (f ys))))
-    (rw (t.other hash ys refl) (after_other text hash (read (f ys))))
-    refl
-    (λ b p q h c. rw (t.other b ys c, p, c) (after_other text b (read (f ys)))) b
+plain_reading f t text b ys = grind (arith, by_byte, next_text, plain, next, after_other)
 
 noted_reading : (f : List ℕ → List ℕ) → TakesReturn f → (text : List ℕ) (b : ℕ) (ys : List ℕ)
     → upon text (read_at noted (f (b ∷ ys))) ≡ upon (next_text noted text b) (whole_of f (next noted b) ys)
-noted_reading f t text b ys =
-    by_byte (λ b. upon text (read_at noted (f (b ∷ ys))) ≡ upon (next_text noted text b) (whole_of f (next noted b) ys))
-    (rw (t.other backslash ys refl, append_assoc) refl)
-    (rw (t.other quote ys refl, append_assoc) refl)
-    (rw (t.other hash ys refl, append_assoc) refl)
-    refl
-    (λ b p q h c. rw (t.other b ys c, c, append_assoc) refl) b
+noted_reading f t text b ys = grind (arith, by_byte, noted, next_text, next, append_assoc)
 
 slash_reading : (f : List ℕ → List ℕ) → TakesReturn f → (text : List ℕ) (b : ℕ) (ys : List ℕ)
     → upon text (whole_of f slash (b ∷ ys)) ≡ upon (next_text slash text b) (whole_of f (next slash b) ys)
 unfolding read read_pair
-slash_reading f t text b ys =
-    by_byte (λ b. upon text (whole_of f slash (b ∷ ys)) ≡ upon (next_text slash text b) (whole_of f (next slash b) ys))
-    (rw (t.more backslash backslash ys, t.other backslash ys refl) (after_two text backslash backslash (read (f ys))))
-    (rw (t.more backslash quote ys, t.other quote ys refl, append_assoc) refl)
-    (rw (t.more backslash hash ys, t.other hash ys refl) refl)
-    refl
-    (λ b p q h c. rw (t.more backslash b ys, t.other b ys c, q, h, c) (after_two text backslash b (read (f ys)))) b
+slash_reading f t text b ys = grind (arith, by_byte, slash, next_text, next, after_two, append_assoc)
 
 -- a byte more
 pub upon-next : (f : List ℕ → List ℕ) → TakesReturn f → (s : Spot) (text : List ℕ) (b : ℕ) (ys : List ℕ)
     → upon text (whole_of f s (b ∷ ys)) ≡ upon (next_text s text b) (whole_of f (next s b) ys)
 unfolding read read_pair
 upon-next f t plain text b ys = plain_reading f t text b ys
-upon-next f t returned text b ys =
-    rw (t.more carriage_return b ys) (after_other text carriage_return (read (f (b ∷ ys))) ∙ plain_reading f t (text ++ carriage_return ∷ []) b ys)
+upon-next f t returned text b ys = grind (arith, after_other, plain_reading)
 upon-next f t slash text b ys = slash_reading f t text b ys
-upon-next f t slash_returned text b ys =
-    rw (t.more backslash carriage_return (b ∷ ys), t.more carriage_return b ys)
-    (after_two text backslash carriage_return (read (f (b ∷ ys))) ∙ plain_reading f t (text ++ backslash ∷ carriage_return ∷ []) b ys)
+upon-next f t slash_returned text b ys = grind (arith, after_two, plain_reading)
 upon-next f t noted text b ys = noted_reading f t text b ys
 upon-next f t noted_returned text b ys =
     rw (t.more carriage_return b ys)
@@ -97,10 +76,7 @@ cond_cons true x ys zs = refl
 cond_cons false x ys zs = refl
 
 strip-more : (x y : ℕ) (zs : List ℕ) → strip_carriage_return (x ∷ y ∷ zs) ≡ x ∷ strip_carriage_return (y ∷ zs)
-strip-more x y zs =
-    let long : suc (suc (length zs)) - 1 ≡ suc (length zs) = omega arith in
-    let short : suc (length zs) - 1 ≡ length zs = omega arith in
-    rw (long, short) (cond_cons (get_or (y ∷ zs) (length zs) 0 == carriage_return) x (take (length zs) (y ∷ zs)) (y ∷ zs))
+strip-more x y zs = grind (arith, cond_cons, get_or)
 
 strip-other : (x : ℕ) (zs : List ℕ) → (x == carriage_return) ≡ false → strip_carriage_return (x ∷ zs) ≡ x ∷ strip_carriage_return zs
 strip-other x [] h = rw h refl
@@ -156,10 +132,7 @@ end_open-at a n p k dropping text = refl
 pub open_after-line : (a : Mark) (n p k : ℕ) (s : Spot) (text y : List ℕ) → is_settled a ≡ true → All (λ b. (b == newline) ≡ false) y
     → next_open (open_after (at a n p s text k) y) newline ≡ after_line a n p (k + length y + 1) (upon text (whole_of strip_carriage_return s y))
 unfolding open_after
-open_after-line a n p k s text [] h e =
-    let count : k + 1 ≡ k + 0 + 1 = omega arith in
-    next_open-newline (mode_of s) (hold (text ++ pending s)) (return_of s) n p k a h ∙ newline-at a n p (k + 1) s text
-    ∙ ap (λ j. after_line a n p j (upon text (whole_of strip_carriage_return s []))) count
+open_after-line a n p k s text [] h e = grind (arith, next_open-newline, mode_of, pending, return_of, newline-at)
 open_after-line a n p k s text (b ∷ y) h e =
     let count : k + 1 + length y + 1 ≡ k + suc (length y) + 1 = omega arith in
     ap (λ o. next_open (open_after o y) newline) (next_open-at a n p k s text b h (e 0 0 (omega arith)))
@@ -171,9 +144,7 @@ open_after-line a n p k s text (b ∷ y) h e =
 pub open_after-end : (a : Mark) (n p k : ℕ) (s : Spot) (text y : List ℕ) → is_settled a ≡ true → All (λ b. (b == newline) ≡ false) y
     → end_open (open_after (at a n p s text k) y) ≡ any true Plain (hold (upon text (whole_of (λ l. l) s y)).text) false false n p (k + length y) a
 unfolding open_after
-open_after-end a n p k s text [] h e =
-    let count : k ≡ k + 0 = omega arith in
-    end_open-at a n p k s text ∙ ap (λ j. any true Plain (hold (upon text (whole_of (λ l. l) s [])).text) false false n p j a) count
+open_after-end a n p k s text [] h e = grind (arith, end_open-at, any)
 open_after-end a n p k s text (b ∷ y) h e =
     let count : k + 1 + length y ≡ k + suc (length y) = omega arith in
     ap (λ o. end_open (open_after o y)) (next_open-at a n p k s text b h (e 0 0 (omega arith)))

@@ -106,17 +106,7 @@ hold-pop text b =
 -- a byte is one of those that cutting looks at, or another
 pub by_byte : (P : ℕ → Type 0) → P backslash → P quote → P hash → P carriage_return
     → ((b : ℕ) → (b == backslash) ≡ false → (b == quote) ≡ false → (b == hash) ≡ false → (b == carriage_return) ≡ false → P b) → (b : ℕ) → P b
-by_byte P p q h c other b =
-    elim (eqb_tells b backslash) [
-      | inl is ↦ subst P (sym is.1) p
-      | inr n ↦ elim (eqb_tells b quote) [
-        | inl is ↦ subst P (sym is.1) q
-        | inr m ↦ elim (eqb_tells b hash) [
-          | inl is ↦ subst P (sym is.1) h
-          | inr l ↦ elim (eqb_tells b carriage_return) [ inl is ↦ subst P (sym is.1) c | inr k ↦ other b n.0 m.0 l.0 k.0 ]
-        ]
-      ]
-    ]
+by_byte P p q h c other b = grind (arith, eqb_tells)
 
 -- a byte that ends no physical line, when the page's first bytes are read
 pub next_open-settled : (m : Mode) (t : Held) (r : Bool) (n p k : ℕ) (a : Mark) (b : ℕ) → is_settled a ≡ true → (b == newline) ≡ false
@@ -132,35 +122,17 @@ grown xs ys b e = hold-push xs b ∙ ap hold e
 put_plain-at : (a : Mark) (n p k : ℕ) (m : Mode) (r : Bool) (text : List ℕ) (b : ℕ)
     → put_plain (st m (hold text) r true n p k a) b ≡ at a n p (plain_next b) (plain_text text b) k
 unfolding put_plain put
-put_plain-at a n p k m r text =
-    by_byte (λ b. put_plain (st m (hold text) r true n p k a) b ≡ at a n p (plain_next b) (plain_text text b) k)
-    (ap (λ h. st Backslash h false true n p k a) (hold-push text backslash))
-    (ap (λ h. st Plain h false true n p k a) (grown text _ quote (sym (append-nil _))))
-    (ap (λ h. st Plain h false true n p k a) (grown text _ hash (sym (append-nil _))))
-    (ap (λ h. st Plain h true true n p k a) (hold-push text carriage_return))
-    (λ b f g h i. rw (f, i) (ap (λ h. st Plain h false true n p k a) (grown text _ b (sym (append-nil _)))))
+put_plain-at a n p k m r text = grind (arith, by_byte, st, hold-push, grown, append-nil)
 
 put_comment-at : (a : Mark) (n p k : ℕ) (m : Mode) (r : Bool) (text : List ℕ) (b : ℕ)
     → put (st m (hold text) r true n p k a) b Comment ≡ at a n p (noted_next b) (noted_text text b) k
 unfolding put
-put_comment-at a n p k m r text =
-    by_byte (λ b. put (st m (hold text) r true n p k a) b Comment ≡ at a n p (noted_next b) (noted_text text b) k)
-    (ap (λ h. st Comment h false true n p k a) (grown text _ backslash (sym (append-nil _))))
-    (ap (λ h. st Comment h false true n p k a) (grown text _ quote (sym (append-nil _))))
-    (ap (λ h. st Comment h false true n p k a) (grown text _ hash (sym (append-nil _))))
-    (ap (λ h. st Comment h true true n p k a) (hold-push text carriage_return))
-    (λ b f g h i. rw i (ap (λ h. st Comment h false true n p k a) (grown text _ b (sym (append-nil _)))))
+put_comment-at a n p k m r text = grind (arith, by_byte, st, grown, append-nil, hold-push)
 
 put_pair-at : (a : Mark) (n p k : ℕ) (text : List ℕ) (b : ℕ)
     → put_pair (st Backslash (hold (text ++ backslash ∷ [])) false true n p k a) b ≡ at a n p (next slash b) (next_text slash text b) k
 unfolding put_pair pair_mode put
-put_pair-at a n p k text =
-    by_byte (λ b. put_pair (st Backslash (hold (text ++ backslash ∷ [])) false true n p k a) b ≡ at a n p (next slash b) (next_text slash text b) k)
-    (ap (λ h. st Plain h false true n p k a) (grown _ _ backslash (simp (append_assoc, append-nil))))
-    (ap (λ h. st Comment h false true n p k a) (grown _ _ quote (simp (append_assoc, append-nil))))
-    (ap (λ h. st Dropped h false true n p k a) (hold-pop text backslash ∙ ap hold (sym (append-nil text))))
-    (ap (λ h. st Backslash h true true n p k a) (grown _ _ carriage_return (simp append_assoc)))
-    (λ b f g h i. rw (g, h, i) (ap (λ h. st Plain h false true n p k a) (grown _ _ b (simp (append_assoc, append-nil)))))
+put_pair-at a n p k text = grind (arith, by_byte, st, grown, append_assoc, append-nil, hold-pop)
 
 put_in-at : (a : Mark) (n p k : ℕ) (s : Spot) (text : List ℕ) (b : ℕ)
     → put_in (mode_of s) (return_of s) (at a n p s text k) b ≡ at a n p (next s b) (next_text s text b) k
@@ -176,5 +148,4 @@ put_in-at a n p k dropping text b = refl
 -- from spot to spot
 pub next_open-at : (a : Mark) (n p k : ℕ) (s : Spot) (text : List ℕ) (b : ℕ) → is_settled a ≡ true → (b == newline) ≡ false
     → next_open (at a n p s text k) b ≡ at a n p (next s b) (next_text s text b) (k + 1)
-next_open-at a n p k s text b h e =
-    next_open-settled (mode_of s) (hold (text ++ pending s)) (return_of s) n p k a b h e ∙ put_in-at a n p (k + 1) s text b
+next_open-at a n p k s text b h e = grind (arith, next_open-settled, put_in-at)

@@ -58,8 +58,7 @@ newline_in-begun _ o = tt
 put_byte-begun : (e : Bool) (o : Open) (b : ℕ) → HasBegun o → (e ≡ true → o.mode ≡ Plain) → HasBegun (put_byte e o b)
 unfolding put_byte put_newline
 put_byte-begun true o b h p = rw (p refl) tt
-put_byte-begun false o b h p =
-    either-begun (b == newline) _ _ (newline_in-begun o.mode (without_return o)) (put_in-begun o.mode o.after_return o b h h)
+put_byte-begun false o b h p = grind (arith, either-begun, newline_in-begun, put_in-begun)
 
 ends-plain : (m : Mark) (mode : Mode) (b : ℕ) → Early m mode → ends_mark m b ≡ true → mode ≡ Plain
 unfolding ends_mark
@@ -69,26 +68,16 @@ ends-plain _ mode b h e = h
 
 put_byte-early : (m : Mark) (o : Open) (b : ℕ) → Early m o.mode → Early (mark_after m b) (put_byte (ends_mark m b) o b).mode
 unfolding put_byte put_in put_plain put ends_mark mark_after
-put_byte-early Unread o b h = elim (eqb_tells b 0xEF) [
-  | inl is ↦ rw (is.1, h) refl
-  | inr n ↦ rw n.0 tt
-]
-put_byte-early First o b h = elim (eqb_tells b 0xBB) [
-  | inl is ↦ rw (is.1, h) refl
-  | inr n ↦ rw n.0 tt
-]
-put_byte-early Second o b h = elim (eqb_tells b 0xBF) [
-  | inl is ↦ rw is.1 tt
-  | inr n ↦ rw n.0 tt
-]
+put_byte-early Unread o b h = grind (arith, eqb_tells)
+put_byte-early First o b h = grind (arith, eqb_tells)
+put_byte-early Second o b h = grind (arith, eqb_tells)
 put_byte-early _ o b h = tt
 
 -- a byte more, by how much of a mark came before it
 next-steady : (m : Mark) (o : Open) (b : ℕ) → HasBegun o → Early m o.mode
     → HasBegun (put_byte (ends_mark m b) (count_byte o b) b) × Early (mark_after m b) (put_byte (ends_mark m b) (count_byte o b) b).mode
 unfolding count_byte
-next-steady m o b h g =
-    (put_byte-begun (ends_mark m b) (count_byte o b) b h (ends-plain m o.mode b g), put_byte-early m (count_byte o b) b g)
+next-steady m o b h g = grind (arith, put_byte-begun, ends-plain, put_byte-early)
 
 either-next : (m : Mark) (b : ℕ) (w : Bool) (p o : Open)
     → HasBegun (put_byte (ends_mark m b) (count_byte p b) b) × Early (mark_after m b) (put_byte (ends_mark m b) (count_byte p b) b).mode
@@ -154,9 +143,7 @@ none-more p = ap (λ l. l ++ []) (at-open (next_point p letter) (next_open-whole
 
 one-last : (p : Point) → Steady p.line → length (last_line (point_after p (letter ∷ []))) ≡ 1
 unfolding point_after next_point point_at end_point
-one-last p h =
-    let o = next_open p.line letter in
-    at-whole (end_point (next_point p letter)) (end-whole o (next_open-whole p.line letter refl) (letter-begun p.line h.0))
+one-last p h = grind (arith, at-whole, end-whole, next_open-whole, letter-begun)
 
 front-is : {X : Type 0} (xs ys : List X) → length ys ≡ 1 → take (length (xs ++ ys) - 1) (xs ++ ys) ≡ xs
 front-is xs ys h =
@@ -164,26 +151,10 @@ front-is xs ys h =
     rw n (take-append_seam xs ys)
 
 pub whole-is : (set : Encoding) (bytes : List ℕ) → whole_lines set bytes ≡ lines_within (first_point set) bytes
-whole-is set bytes =
-    let p = first_point set in
-    let q = point_after p bytes in
-    let last = last_line (point_after q (letter ∷ [])) in
-    let within : lines_within p (bytes ++ letter ∷ []) ≡ lines_within p bytes =
-    lines_within-append p bytes (letter ∷ []) ∙ ap (λ l. lines_within p bytes ++ l) (none-more q) ∙ append-nil (lines_within p bytes) in
-    let all : lines set (bytes ++ letter ∷ []) ≡ lines_within p bytes ++ last =
-    lines-one_by_one set (bytes ++ letter ∷ [])
-    ∙ ap (λ l. l ++ last_line (point_after p (bytes ++ letter ∷ []))) within
-    ∙ ap (λ r. lines_within p bytes ++ last_line r) (point_after-append p bytes (letter ∷ [])) in
-    ap (λ ls. take (length ls - 1) ls) all
-    ∙ front-is (lines_within p bytes) last (one-last q (point-steady p bytes (tt, refl)))
+whole-is set bytes = grind (arith, lines_within-append, none-more, append-nil, lines-one_by_one, point_after-append, front-is, one-last, point-steady)
 
 pub made-is : (set : Encoding) (before own : List ℕ) → lines_made set before own ≡ lines_within (point_after (first_point set) before) own
-made-is set before own =
-    let p = first_point set in
-    rw (whole-is set before, whole-is set (before ++ own), lines_within-append p before own)
-    (drop-append_seam (lines_within p before) (lines_within (point_after p before) own))
+made-is set before own = grind (arith, whole-is, lines_within-append, drop-append_seam)
 
 pub left-is : (set : Encoding) (bytes : List ℕ) → line_left set bytes ≡ last_line (point_after (first_point set) bytes)
-left-is set bytes =
-    let p = first_point set in
-    rw (whole-is set bytes, lines-one_by_one set bytes) (drop-append_seam (lines_within p bytes) (last_line (point_after p bytes)))
+left-is set bytes = grind (arith, whole-is, lines-one_by_one, drop-append_seam)
