@@ -1,5 +1,5 @@
 -- What came to streams, and the names of a command.
-use Rattle.std.proofs.Common.{◌≡◌, ℕ, Bool, true, false, List, [], ◌∷◌, Option, refl, sym, ap, ◌∙◌, subst, arith, max, length, ◌<◌, ◌≤◌, map, nat_cmp}
+use Rattle.std.proofs.Common.{◌≡◌, ℕ, Bool, true, false, List, [], ◌∷◌, Option, refl, sym, ◌∙◌, subst, arith, max, length, ◌<◌, ◌≤◌, map, nat_cmp}
 use Rattle.std.specs.Prelude.{◌==◌, codes}
 use Rattle.std.specs.Ordering.{ord_max}
 use Rattle.page_core_base.specs.declared.page_settings.Settings.{Settings as PageSettings}

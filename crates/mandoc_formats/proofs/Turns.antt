@@ -1,16 +1,11 @@
 -- What came of names in turn.
-use Rattle.std.proofs.Common.{◌≡◌, ℕ, Bool, true, false, List, [], ◌∷◌, ◌++◌, Option, refl, sym, ap, ◌∙◌, subst, drop, length, ◌<◌, ◌≤◌, ◌+◌, get_or, map}
+use Rattle.std.proofs.Common.{◌≡◌, ℕ, Bool, true, false, List, [], ◌∷◌, Option, refl, sym, ap, ◌∙◌, subst, drop, length, ◌<◌, ◌≤◌, ◌+◌, get_or, map}
 use Rattle.std.specs.Bool.{MatchBool}
 use Rattle.std.proofs.lemmas.List.{drop_more}
 use Rattle.std.proofs.Math.ListN.{drop_of_length-le}
 use Rattle.page_core_streams.specs.Streams.{Grows}
 use Rattle.page_core_streams.specs.laws.Views.{Grows-nil, Grows-append}
 use Rattle.mandoc_formats.specs.Turns.{Came, InTurn, Does, and_then}
-
--- another word for what was done
-pub does_so : {E : Type 0} (P Q : Came E → Type 0) (end : E) (a b c d : Option (List ℕ)) → ((came : Came E) → P came → Q came)
-    → Does P end a b c d → Does Q end a b c d
-does_so P Q end a b c d f h = (h.0, f h.0 h.1, h.2, h.3, h.4)
 
 pub at_bool : (b c : Bool) (P Q : Type 0) → b ≡ c → MatchBool c P Q → MatchBool b P Q
 at_bool b c P Q e h = subst (λ (x : Bool). MatchBool x P Q) (sym e) h

@@ -1,6 +1,6 @@
 //! What is reported of files that fail, and how a run goes on after that (mandoc(1), DIAGNOSTICS and EXIT STATUS).
 
-ghost use Rattle.std.specs.Prelude.{◌≡◌, ◌++◌, [], false, codes};
+ghost use Rattle.std.specs.Prelude.{◌≡◌, ◌++◌, false, codes};
 ghost use Rattle.page_core_streams.specs.Streams.{GrowsInto};
 ghost use Rattle.page_core_streams.specs.laws.Views.{Writes};
 ghost use Rattle.mandoc_formats.specs.Formats.{fault_text, stops_after, fault_line, unopened_line, line_about, line_end, shown};

@@ -1,6 +1,6 @@
 //! A search of an index: its lines are read one after another, in the memory of one line (whatis(1)).
 
-ghost use Rattle.std.specs.Prelude.{◌≡◌, ◌+◌, ◌<◌, ◌≤◌, ◌^◌, ℕ, List, [], length, IfOk, IfErr, true};
+ghost use Rattle.std.specs.Prelude.{◌≡◌, ◌+◌, ◌<◌, ◌≤◌, ◌^◌, ℕ, List, length, IfOk, IfErr, true};
 ghost use Rattle.std.specs.Io.KnownBytes.{Consumes};
 ghost use Rattle.page_engine_index.specs.Searches.{Searches, SearchesOver, counting, rows_to};
 ghost use Rattle.page_engine_index.specs.machine.Steps.{IsFresh, TakesLine, TakesOpen, TakesPart, TakesChunk, Finishes};

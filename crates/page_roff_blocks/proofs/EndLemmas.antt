@@ -1,12 +1,9 @@
 -- What is left of a line after a part is the end of that line: helpers of proofs.
-use Rattle.std.proofs.Common.{◌≡◌, ℕ, ◌+◌, ◌-◌, ◌≤◌, nat_lt, false, List, ◌∷◌, length, take, drop, Option, Some, None, refl, sym, ap, ◌∙◌, arith, inl, inr, length-drop}
-use Rattle.std.proofs.lemmas.Bool.{cases_Bool}
-use Rattle.std.proofs.lemmas.Bool.Decides.{nat_tests}
+use Rattle.std.proofs.Common.{◌≡◌, ℕ, ◌-◌, ◌≤◌, nat_lt, false, List, ◌∷◌, length, take, drop, Option, Some, None, refl, sym, ap, ◌∙◌, arith, length-drop}
 use Rattle.std.proofs.lemmas.List.{drop-drop, drop_all, take_all}
 use Rattle.page_roff_blocks.specs.declared.line_parts.LinePart.{LinePart}
 use Rattle.page_roff_blocks.specs.declared.line_parts.LinePart.TheVariants.{Leaf}
-use Rattle.page_roff_blocks.specs.Parts.{part_of, with_part, line_parts, whole_line_part, written_part}
-use Rattle.page_roff_blocks.specs.laws.Views.{line_parts_left}
+use Rattle.page_roff_blocks.specs.Parts.{part_of, line_parts, whole_line_part, written_part}
 use Rattle.page_roff_blocks.specs.machine.LinePlaces.{IsEndOf, IsRestIn, rest_at, parts_at, place_after, is_block, opens_block}
 use Rattle.page_roff_blocks.proofs.LinePartLemmas.{EndsRest, part_ends, line_parts_cons}
 

@@ -3,7 +3,7 @@ use Rattle.std.proofs.Common.{◌≡◌, ℕ, Bool, true, false, List, [], ◌�
 use Rattle.page_roff_syntax.specs.Regions.{Opened}
 use Rattle.page_roff_blocks.specs.machine.Run.{At}
 use Rattle.page_roff_blocks.specs.machine.Steps.{step_lines}
-use Rattle.page_roff_blocks.specs.machine.Languages.{Kind, Done, gives, calls, repeats, Language, run_body, meaning_by, meaning_at}
+use Rattle.page_roff_blocks.specs.machine.Languages.{Kind, Done, gives, calls, repeats, Language, meaning_by, meaning_at}
 use Rattle.page_roff_blocks.specs.machine.Machine.{Turning, Frame, Running, depth, line_in, line_rest, finish_if, ended, after_line, rest, rest_of}
 use Rattle.page_roff_blocks.specs.machine.Fronts.{over_pair, over, over_running, over_done, IsFront}
 use Rattle.page_roff_blocks.proofs.KeepLemmas.{IsAny, any_leaves, any_line, any_lines}

@@ -7,7 +7,6 @@ use Rattle.page_roff_syntax.specs.declared.region_heads.RegionHead.{RegionHead}
 use Rattle.page_roff_syntax.specs.Regions.{Opened}
 use Rattle.page_roff_blocks.specs.Parts.{loop_text}
 use Rattle.page_roff_blocks.specs.machine.Run.{At}
-use Rattle.page_core_base.specs.declared.limits.TheConstants.{CALLS}
 use Rattle.page_roff_blocks.specs.machine.Languages.{Kind, page, body, inner, Done, gives, calls, repeats, meaning_by, meaning_at, run_page}
 use Rattle.page_roff_blocks.specs.machine.Budgets.{Budgeted, Effects, with_rest, charge_by, charge, begin_line, whether_run, meet, test, unopened_by, read_line, end_line, collect_some, meaning, done_with, closed_with, turn_by, turn, language}
 use Rattle.page_roff_blocks.proofs.KeepLemmas.{IsIfSome, IsLoopHead, AreSuch, HasLeaves, HasLoopTexts}

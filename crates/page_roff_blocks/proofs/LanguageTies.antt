@@ -1,7 +1,6 @@
 -- Two languages side by side: with the macros that they call and their loops, states that are tied stay tied. Helpers of proofs.
 use Rattle.std.proofs.Common.{ℕ, zero, suc, Bool, true, false, List, Option, Some, None, refl, subst, arith}
 use Rattle.page_roff_syntax.specs.Regions.{Opened}
-use Rattle.page_roff_blocks.specs.Forest.{first_place, SourcePlace}
 use Rattle.page_roff_blocks.specs.machine.Run.{At}
 use Rattle.page_roff_blocks.specs.machine.Steps.{step_lines}
 use Rattle.page_core_base.specs.declared.limits.TheConstants.{CALLS}

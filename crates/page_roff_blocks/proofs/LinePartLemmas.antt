@@ -4,12 +4,12 @@ use Rattle.std.proofs.lemmas.Bool.{cases_Bool}
 use Rattle.std.proofs.lemmas.Bool.Decides.{nat_tests}
 use Rattle.std.proofs.lemmas.List.{length-take-le, drop-drop}
 use Rattle.std.proofs.lemmas.List.Sums.{prefix_len-le-length}
-use Rattle.page_roff_syntax.specs.LineForms.{form_of, name_start, name_len, is_control, is_name, is_white, has_word, begins_comment, without_comment, control_line, uncommented_form}
+use Rattle.page_roff_syntax.specs.LineForms.{form_of, name_start, name_len, is_control, is_name, is_white, has_word, without_comment, control_line, uncommented_form}
 use Rattle.page_roff_syntax.specs.laws.Views.{name_of, begins_control}
 use Rattle.page_roff_syntax.specs.declared.line_forms.LineForm.{LineForm}
 use Rattle.page_roff_syntax.specs.declared.line_forms.LineForm.TheVariants.{Control}
 use Rattle.page_roff_syntax.proofs.ControlLemmas.{uncommented_control}
-use Rattle.page_roff_heads.specs.Conditions.{condition_len, blank_len, after_blanks, begins_pair, is_some_line, remainder_of}
+use Rattle.page_roff_heads.specs.Conditions.{condition_len, blank_len, after_blanks, begins_pair, remainder_of}
 use Rattle.page_roff_heads.specs.Heads.{conditional_of, guarded_of, end_place, block_end_of, loop_of}
 use Rattle.page_roff_heads.specs.declared.loops.LoopRead.{LoopRead}
 use Rattle.page_roff_heads.specs.declared.texts.Placed.{Placed}
@@ -18,7 +18,7 @@ use Rattle.page_roff_blocks.specs.declared.line_parts.LinePart.TheVariants.{Leaf
 use Rattle.page_roff_blocks.specs.declared.parts.Columns.{Columns}
 use Rattle.page_roff_blocks.specs.declared.parts.Keyword.{Keyword}
 use Rattle.page_roff_blocks.specs.declared.parts.Keyword.TheVariants as keywords
-use Rattle.page_roff_blocks.specs.Parts.{whole_part, part_of, with_part, parts, line_parts, rest_text, loop_part_if, end_part, cut_part, plain_part, raw_rest, keyword_of, keyword_part, form_part, written_part}
+use Rattle.page_roff_blocks.specs.Parts.{part_of, with_part, parts, line_parts, rest_text, loop_part_if, end_part, plain_part, raw_rest, keyword_of, keyword_part, form_part, written_part}
 use Rattle.page_roff_blocks.specs.laws.Views.{line_parts_left, IsWithin, columns_of, named_part}
 
 -- what is left of a line is shorter than the line

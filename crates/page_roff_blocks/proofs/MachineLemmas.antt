@@ -1,18 +1,17 @@
 -- What is still to come, step by step: helpers of proofs.
-use Rattle.std.proofs.Common.{◌≡◌, ℕ, zero, suc, ◌-◌, Bool, true, false, List, [], ◌∷◌, length, Option, Some, None, refl, sym, ap, ◌∙◌, arith}
+use Rattle.std.proofs.Common.{◌≡◌, ℕ, zero, suc, ◌-◌, Bool, true, false, List, [], ◌∷◌, Option, Some, None, refl, ap, ◌∙◌, arith}
 use Rattle.page_roff_heads.specs.declared.loops.LoopHead.{LoopHead}
 use Rattle.page_roff_blocks.specs.declared.line_parts.LinePart.{LinePart}
 use Rattle.page_roff_blocks.specs.declared.line_parts.LinePart.TheVariants.{Leaf, Guard, Block, Loop, End, Region}
 use Rattle.page_roff_blocks.specs.declared.levels.Ended.{Ended}
 use Rattle.page_roff_blocks.specs.declared.levels.Ended.TheVariants as endings
 use Rattle.page_roff_syntax.specs.Regions.{is_ending, Opened}
-use Rattle.page_roff_blocks.specs.laws.Views.{BlockCursor, at_line, after_part, leave, what_ends}
+use Rattle.page_roff_blocks.specs.laws.Views.{BlockCursor, at_line}
 use Rattle.page_roff_blocks.specs.Forest.{first_place}
 use Rattle.page_roff_blocks.specs.machine.Run.{Meaning, At, end_by}
 use Rattle.page_roff_blocks.specs.machine.Run as blocks
-use Rattle.page_roff_blocks.specs.machine.Steps.{met, step_leaf, step_loop, step_end, step_region, step_parts, step_inside, step_from, step, step_lines}
-use Rattle.page_core_base.specs.declared.limits.TheConstants.{CALLS}
-use Rattle.page_roff_blocks.specs.machine.Languages.{Kind, page, body, inner, Done, gives, calls, repeats, TURNS, Language, is_some, run_if, finish_at, run_body, turns, done_by, meaning_by, done_at, meaning_at, run_page}
+use Rattle.page_roff_blocks.specs.machine.Steps.{step_leaf, step_loop, step_end, step_region, step_parts, step_inside, step_from, step, step_lines}
+use Rattle.page_roff_blocks.specs.machine.Languages.{Kind, Done, gives, calls, repeats, Language, is_some, run_if, finish_at, run_body, turns, done_by, meaning_by, done_at, meaning_at, run_page}
 use Rattle.page_roff_blocks.specs.machine.Machine.{Turning, Frame, Running, entered, looped, turned, at_part, between, at_page, depth, stands_at, line_in, line_rest, finish_if, ended, after_line, rest, rest_of, leaf_next, leaf_if, loop_next, loop_if, end_next, part_next, region_next, line_next, turn_if, turn_next, body_next, source_next, next_in, next}
 
 module _ {S : Type 0} (l : Language S) where

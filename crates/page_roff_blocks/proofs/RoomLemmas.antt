@@ -8,9 +8,9 @@ use Rattle.page_roff_blocks.specs.declared.line_parts.Opening.TheVariants as ope
 use Rattle.page_roff_blocks.specs.declared.levels.Way.{Way}
 use Rattle.page_roff_blocks.specs.declared.levels.Way.TheVariants.{Runs}
 use Rattle.page_roff_blocks.specs.Parts.{ends_first, part_of, parts, line_parts}
-use Rattle.page_roff_blocks.specs.Forest.{Levels, bit_after}
-use Rattle.page_roff_blocks.specs.laws.Views.{way_of, enter, open_loop, skip, leave, leave_from, leave_loop, leave_level, BlockCursor, after_part, guarded_by}
-use Rattle.page_roff_blocks.specs.machine.Run.{Meaning, value}
+use Rattle.page_roff_blocks.specs.Forest.{Levels}
+use Rattle.page_roff_blocks.specs.laws.Views.{enter, open_loop, skip, leave, leave_from, leave_loop, leave_level, BlockCursor, after_part, guarded_by}
+use Rattle.page_roff_blocks.specs.machine.Run.{Meaning}
 use Rattle.page_roff_blocks.specs.machine.Steps.{met, step_leaf, guard_with, guard_met, step_guard, block_with, opening_met, block_met, step_block, step_loop, step_end, step_region, step_parts}
 use Rattle.page_roff_blocks.proofs.LinePartLemmas.{room, room_left, part_shorter}
 

@@ -5,7 +5,7 @@ use Rattle.page_roff_blocks.specs.declared.line_parts.LinePart.{LinePart}
 use Rattle.page_roff_blocks.specs.declared.line_parts.LinePart.TheVariants.{Leaf, Guard, Block, Loop, End, Region}
 use Rattle.page_roff_blocks.specs.declared.levels.Ended.{Ended}
 use Rattle.page_roff_blocks.specs.declared.levels.Ended.TheVariants as endings
-use Rattle.page_roff_syntax.specs.Regions.{Opened, is_ending, opened}
+use Rattle.page_roff_syntax.specs.Regions.{Opened, opened}
 use Rattle.page_roff_blocks.specs.Parts.{line_parts}
 use Rattle.page_roff_blocks.specs.laws.Views.{BlockCursor, at_line, after_part, leave, what_ends}
 use Rattle.page_roff_blocks.specs.machine.Run.{Meaning, At, keep_if}

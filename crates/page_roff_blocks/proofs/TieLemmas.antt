@@ -1,5 +1,5 @@
 -- Two sources side by side: states that are tied stay tied. Helpers of proofs.
-use Rattle.std.proofs.Common.{◌≡◌, ℕ, zero, suc, Bool, true, false, List, [], ◌∷◌, length, Option, Some, None, refl, sym, ap, ◌∙◌, subst, arith}
+use Rattle.std.proofs.Common.{◌≡◌, ℕ, zero, suc, Bool, true, false, List, [], ◌∷◌, Option, Some, None, refl, sym, ap, subst, arith}
 use Rattle.page_roff_heads.specs.declared.conditions.Condition.{Condition}
 use Rattle.page_roff_heads.specs.declared.loops.LoopHead.{LoopHead}
 use Rattle.page_roff_blocks.specs.declared.line_parts.LinePart.{LinePart}
@@ -17,7 +17,7 @@ use Rattle.page_roff_syntax.specs.declared.region_heads.RegionHead.{RegionHead}
 use Rattle.page_roff_blocks.specs.Parts.{line_parts}
 use Rattle.page_roff_syntax.specs.Regions.{is_ending, Opened}
 use Rattle.page_roff_blocks.specs.Forest.{Levels, SourcePlace}
-use Rattle.page_roff_blocks.specs.laws.Views.{way_of, what_ends, BlockCursor, at_line, after_part, guarded_by, reached, reached_in, reached_from, reached_if}
+use Rattle.page_roff_blocks.specs.laws.Views.{what_ends, BlockCursor, at_line, after_part, guarded_by, reached, reached_in, reached_from, reached_if}
 use Rattle.page_roff_blocks.specs.machine.Run.{Meaning, At, meet_as, value, leaf_if, loop_if, refuse_if, keep_if, end_by, open_region}
 use Rattle.page_roff_blocks.specs.machine.Steps.{met, step_leaf, guard_with, guard_met, step_guard, block_with, opening_met, block_met, step_block, step_loop, step_end, step_region, step_parts, step_inside, collect_if, begin_line, step_from, step, step_lines}
 use Rattle.page_roff_blocks.proofs.KeepLemmas.{IsLoopHead, IsOpening, AreLeaves, AreSuch, HasLeaves}

@@ -1,19 +1,18 @@
 -- The logical lines of a page, joined of its physical lines, are those that its bytes give one by one.
-use Rattle.std.proofs.Common.{◌≡◌, ℕ, zero, suc, ◌+◌, Bool, true, false, cond, List, [], ◌∷◌, ◌++◌, map, length, take, refl, sym, ap, ◌∙◌, append_assoc, append-nil, arith, inl, inr}
+use Rattle.std.proofs.Common.{◌≡◌, ℕ, zero, suc, ◌+◌, Bool, true, false, cond, List, [], ◌∷◌, ◌++◌, map, length, take, refl, sym, ap, ◌∙◌, append_assoc, append-nil, arith}
 use Rattle.std.specs.Prelude.{All, ◌==◌}
 use Rattle.std.specs.List.{slice_split, onto_first, join_with_byte}
 use Rattle.std.specs.Str.Lines.{strip_carriage_return, lines_of_parts, lines as physical_lines}
 use Rattle.std.proofs.lemmas.Bool.Decides.{eqb_tells}
 use Rattle.std.proofs.Math.Dec.{eqb-suc-zero}
 use Rattle.std.proofs.lemmas.List.Splits.{join_with_byte-slice_split}
-use Rattle.page_roff_decoding.specs.Decoding.{line_limit}
 use Rattle.page_roff_lines.specs.declared.Mode.TheVariants.{Plain}
 use Rattle.page_roff_lines.specs.declared.Mark.{Mark}
 use Rattle.page_roff_lines.specs.declared.Mark.TheVariants.{Absent, Present}
 use Rattle.page_roff_lines.specs.laws.Views.{newline}
 use Rattle.page_roff_lines.specs.machine.Held.{Held, hold, nothing_held}
-use Rattle.page_roff_lines.specs.Lines.{read, Logical, KeptLine, join_texts, logical_lines, keep}
-use Rattle.page_roff_lines.specs.machine.Open.{Open, restart, next_open, put_byte, put_newline, newline_in, without_return, close, put_in, put_plain, put, count_byte, ends_mark, mark_after, end_open, open_after, whole_lines, kept_of, if_whole, last_line, lines_from}
+use Rattle.page_roff_lines.specs.Lines.{read, Logical, join_texts, logical_lines, keep}
+use Rattle.page_roff_lines.specs.machine.Open.{Open, restart, next_open, put_byte, put_newline, newline_in, without_return, close, put_in, put_plain, put, count_byte, ends_mark, mark_after, end_open, open_after, whole_lines, if_whole, last_line, lines_from}
 use Rattle.page_roff_lines.specs.machine.Run.{is_settled}
 use Rattle.page_roff_lines.proofs.OpenLaws.{open_after-append, whole_lines-append}
 use Rattle.page_roff_lines.proofs.RunLemmas.{st, any, open_after-restart, whole_lines-restart}

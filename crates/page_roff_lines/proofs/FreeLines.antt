@@ -6,7 +6,7 @@ use Rattle.std.proofs.lemmas.Bool.{cases_lt}
 use Rattle.std.proofs.lemmas.List.{get_or-drop, get_or-take, length-take-le, take_all}
 use Rattle.std.proofs.lemmas.List.Sums.{prefix_len-le-length, prefix_len_passes}
 use lib.Count.{count_trailing_zeros}
-use Rattle.page_core_base.specs.laws.Views.{IsFreeLine, is_backslash, is_key}
+use Rattle.page_core_base.specs.laws.Views.{IsFreeLine, is_backslash}
 use Rattle.page_roff_decoding.specs.Decoding.{is_printable}
 use Rattle.page_roff_decoding.specs.machine.Scan.{is_stop, is_text}
 use Rattle.page_roff_decoding.proofs.ScanLemmas.{and_true, not-not, run_stops, run_through}

@@ -1,10 +1,9 @@
 -- A byte order mark is dropped, and a page that only begins like one has these bytes.
-use Rattle.std.proofs.Common.{◌≡◌, ℕ, Bool, true, false, cond, List, [], ◌∷◌, ◌++◌, map, take, drop, refl, sym, ap, ◌∙◌, inl, inr, arith}
+use Rattle.std.proofs.Common.{◌≡◌, ℕ, Bool, true, false, cond, List, [], ◌∷◌, ◌++◌, map, take, drop, refl, sym, ap, ◌∙◌, arith}
 use Rattle.std.specs.Prelude.{nat_eq}
 use Rattle.std.specs.Str.Lines.{lines as physical_lines}
 use Rattle.std.proofs.lemmas.Bool.Decides.{eqb_tells}
 use lib.Pointwise.{pointwise}
-use borrow.Author.Tests.{ne_eqb}
 use Rattle.page_roff_lines.specs.declared.Mode.TheVariants.{Plain}
 use Rattle.page_roff_lines.specs.declared.Mark.{Mark}
 use Rattle.page_roff_lines.specs.declared.Mark.TheVariants.{First, Second, Absent, Present}

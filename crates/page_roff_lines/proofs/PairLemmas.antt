@@ -1,5 +1,5 @@
 -- A backslash and the byte that stays with it do to the open line what a run of both does.
-use Rattle.std.proofs.Common.{◌≡◌, ℕ, ◌+◌, Bool, true, false, not, ◌&&◌, List, [], ◌∷◌, take, get_or, refl, ap, ◌∙◌, arith}
+use Rattle.std.proofs.Common.{◌≡◌, ℕ, ◌+◌, Bool, true, false, not, ◌&&◌, List, [], ◌∷◌, take, get_or, refl, ap, arith}
 use Rattle.std.specs.Prelude.{◌==◌}
 use Rattle.std.proofs.lemmas.Bool.{eqb-true}
 use Rattle.page_roff_decoding.specs.Decoding.{is_printable}
@@ -9,7 +9,7 @@ use Rattle.page_roff_lines.specs.declared.Mark.{Mark}
 use Rattle.page_roff_lines.specs.declared.Mark.TheVariants.{Absent, Present}
 use Rattle.page_roff_lines.specs.laws.Views.{newline, carriage_return}
 use Rattle.page_roff_lines.specs.Lines.{backslash, quote, hash}
-use Rattle.page_roff_lines.specs.machine.Held.{Held, nothing_held, extend}
+use Rattle.page_roff_lines.specs.machine.Held.{Held, extend}
 use Rattle.page_roff_lines.specs.machine.Open.{Open, restart, next_open, put_byte, put_in, put_plain, put_pair, pair_mode, put, count_byte, ends_mark, mark_after, if_whole, whole_lines, open_after}
 use Rattle.page_roff_lines.specs.machine.Run.{BeginsPair, ReadsText, is_settled, run_in, stays, with_run}
 use Rattle.page_roff_lines.proofs.RunLemmas.{any, extend-extend, open_after-restart, st, whole_lines-restart}

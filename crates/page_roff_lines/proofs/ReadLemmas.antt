@@ -1,6 +1,5 @@
 -- Runs and pairs, one after another, are read at once as one of them is.
 use Rattle.std.proofs.Common.{◌≡◌, ℕ, ◌+◌, ◌-◌, ◌<◌, ◌≤◌, Bool, true, false, List, [], ◌∷◌, ◌++◌, length, take, drop, get_or, slice_index, ◌⊎◌, inl, inr, refl, ap, ◌∙◌, append-nil, length-append, arith}
-use Rattle.std.specs.Prelude.{◌==◌, not, ◌&&◌}
 use Rattle.std.specs.List.{list_all}
 use Rattle.std.proofs.Math.Seq.{take-add}
 use Rattle.std.proofs.lemmas.List.{get_or-append-add, get_or-take, length-drop, length-take-le}
@@ -9,7 +8,6 @@ use Rattle.page_roff_decoding.proofs.ScanLemmas.{rest_of, all-append, and_true}
 use Rattle.page_roff_lines.specs.declared.Mode.{Mode}
 use Rattle.page_roff_lines.specs.declared.Mode.TheVariants.{Plain, Comment, Dropped}
 use Rattle.page_roff_lines.specs.declared.Mark.{Mark}
-use Rattle.page_roff_lines.specs.Lines.{quote, hash}
 use Rattle.page_roff_lines.specs.machine.Held.{Held, nothing_held}
 use Rattle.page_roff_lines.specs.machine.Open.{Open, open_after, restart, whole_lines}
 use Rattle.page_roff_lines.specs.machine.Run.{BeginsPair, IsRead, IsText, ends_run, is_settled, run_in, with_run}

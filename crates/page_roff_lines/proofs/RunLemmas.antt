@@ -1,14 +1,13 @@
 -- A run of bytes does to the open line what its bytes do one by one.
 use Rattle.std.proofs.Common.{zero, suc, add_assoc, ◌≡◌, ℕ, ◌+◌, ◌-◌, ◌<◌, Bool, true, false, List, [], ◌∷◌, ◌++◌, length, take, get_or, refl, ap, ◌∙◌, append_assoc, length-append, arith}
 use Rattle.std.specs.Prelude.{◌==◌, ◌||◌, slice_index}
-use Rattle.page_roff_decoding.specs.Decoding.{line_limit}
 use Rattle.page_roff_lines.specs.declared.Mode.{Mode}
 use Rattle.page_roff_lines.specs.declared.Mode.TheVariants.{Plain, Backslash, Comment, Dropped}
 use Rattle.page_roff_lines.specs.declared.Mark.{Mark}
 use Rattle.page_roff_lines.specs.declared.Mark.TheVariants.{Absent, Present}
 use Rattle.page_roff_lines.specs.laws.Views.{newline, carriage_return}
 use Rattle.page_roff_lines.specs.Lines.{backslash}
-use Rattle.page_roff_lines.specs.machine.Held.{Held, nothing_held, extend}
+use Rattle.page_roff_lines.specs.machine.Held.{Held, extend}
 use Rattle.page_roff_lines.specs.machine.Open.{Open, restart, next_open, put_byte, put_in, put_plain, put_newline, without_return, newline_in, close, put, count_byte, ends_mark, mark_after, if_whole, whole_lines, open_after}
 use Rattle.page_roff_lines.specs.machine.Run.{ends_run, is_settled, run_in, with_run}
 

@@ -1,5 +1,5 @@
 -- What a physical line gives, from each spot of its reading on.
-use Rattle.std.proofs.Common.{◌≡◌, ℕ, suc, ◌+◌, ◌-◌, Bool, true, false, cond, List, [], ◌∷◌, ◌++◌, length, take, get_or, refl, sym, ap, ◌∙◌, append_assoc, append-nil, arith}
+use Rattle.std.proofs.Common.{◌≡◌, ℕ, suc, ◌+◌, ◌-◌, Bool, true, false, cond, List, [], ◌∷◌, ◌++◌, length, get_or, refl, sym, ap, ◌∙◌, append_assoc, append-nil, arith}
 use Rattle.std.specs.Prelude.{not, All, ◌==◌}
 use Rattle.std.specs.Str.Lines.{strip_carriage_return}
 use Rattle.page_roff_lines.specs.declared.Mode.{Mode}
@@ -7,7 +7,7 @@ use Rattle.page_roff_lines.specs.declared.Mode.TheVariants.{Plain}
 use Rattle.page_roff_lines.specs.declared.Mark.{Mark}
 use Rattle.page_roff_lines.specs.declared.Mark.TheVariants.{Absent, Present}
 use Rattle.page_roff_lines.specs.laws.Views.{newline, carriage_return}
-use Rattle.page_roff_lines.specs.Lines.{backslash, quote, hash, Physical, after_byte, read, read_pair}
+use Rattle.page_roff_lines.specs.Lines.{backslash, Physical, after_byte, read, read_pair}
 use Rattle.page_roff_lines.specs.machine.Held.{Held, hold, shorten}
 use Rattle.page_roff_lines.specs.machine.Open.{Open, restart, next_open, put_byte, put_newline, newline_in, without_return, close, count_byte, ends_mark, mark_after, end_open, end_in, open_after, whole_lines, if_whole}
 use Rattle.page_roff_lines.specs.machine.Run.{is_settled}

@@ -1,5 +1,5 @@
 -- The lines that are whole by their definition are those that are given within bytes.
-use Rattle.std.proofs.Common.{◌≡◌, ℕ, ◌-◌, Bool, true, false, cond, List, [], ◌∷◌, ◌++◌, length, take, refl, ap, ◌∙◌, inl, inr, append-nil, length-append, arith}
+use Rattle.std.proofs.Common.{◌≡◌, ℕ, ◌-◌, Bool, true, false, cond, List, [], ◌∷◌, ◌++◌, length, take, refl, ap, append-nil, length-append, arith}
 use Rattle.std.specs.Prelude.{◌==◌, ⊤}
 use Rattle.std.proofs.Math.Seq.{take-append_seam, drop-append_seam}
 use Rattle.std.proofs.lemmas.Bool.Decides.{eqb_tells}
@@ -8,9 +8,8 @@ use Rattle.page_roff_lines.specs.declared.Mode.{Mode}
 use Rattle.page_roff_lines.specs.declared.Mode.TheVariants.{Plain, Backslash, Comment, Dropped}
 use Rattle.page_roff_lines.specs.declared.Mark.{Mark}
 use Rattle.page_roff_lines.specs.declared.Mark.TheVariants.{Unread, First, Second, Absent, Present}
-use Rattle.page_roff_lines.specs.laws.Views.{newline}
-use Rattle.page_roff_lines.specs.Lines.{hash, lines, letter, whole_lines, lines_made, line_left}
-use Rattle.page_roff_lines.specs.machine.Open.{Open, restart, close, count_byte, put, put_plain, put_pair, pair_mode, put_in, without_return, newline_in, put_newline, put_byte, ends_mark, mark_after, next_open, end_open}
+use Rattle.page_roff_lines.specs.Lines.{hash, letter, whole_lines, lines_made, line_left}
+use Rattle.page_roff_lines.specs.machine.Open.{Open, restart, close, count_byte, put, put_plain, put_pair, pair_mode, put_in, newline_in, put_newline, put_byte, ends_mark, mark_after, next_open, end_open}
 use Rattle.page_roff_lines.specs.laws.Cutting.{Point, first_point, point_at, next_point, end_point, point_after, line_at, lines_within, last_line}
 use Rattle.page_roff_lines.proofs.OpenLaws.{next_open-mark}
 use Rattle.page_roff_lines.proofs.PointLemmas.{point_after-append, lines_within-append}

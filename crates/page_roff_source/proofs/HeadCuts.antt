@@ -4,7 +4,7 @@ use Rattle.std.specs.Prelude.{IsUtf8}
 use Rattle.std.specs.List.{starts_with, list_all}
 use Rattle.std.proofs.Math.Utf8.{encode}
 use Rattle.std.proofs.lemmas.Bool.{cases_Bool, and_parts, or_cases, leb-true, ltb-true}
-use Rattle.page_core_escapes.proofs.Boundaries.{character_begins, character_ends}
+use Rattle.page_core_escapes.proofs.Boundaries.{character_ends}
 use Rattle.page_roff_syntax.specs.Arguments.{is_blank}
 use Rattle.page_roff_syntax.specs.LineForms.{is_white, is_name}
 use Rattle.page_roff_heads.specs.Conditions.{is_among, is_between, is_letter, begins_expression, kind_of, name_len, second_of, both_len, has_both, texts_after, texts_at, read_test, turn_len, condition_len, argument_len, expression_rest, expression_len, blank_len, after_blanks}
@@ -93,13 +93,6 @@ place_starts d (b ∷ c ∷ bs) =
     (λ s.
     starts_if (b == 92) d t _ _ (λ e. starts_two d b c bs (place_of d bs) (place_starts d bs))
     (λ e. starts_later d b (c ∷ bs) (place_of d (c ∷ bs)) (place_starts d (c ∷ bs))))
-
--- before the next occurrence of a character
-pub before_cut : (d t : List ℕ) (c : ℕ) → d ≡ encode c → IsUtf8 t → nat_lt (place_of d t) (length t) ≡ true → CutsAt t (place_of d t)
-unfolding StartsAt
-before_cut d t c is u h =
-    let found = rw is at (place_starts d t (ltb-true (place_of d t) (length t) h)) in
-    subst (λ (l : List ℕ). CutsAt t (place_of l t)) (sym is) (character_begins t (place_of (encode c) t) c u found)
 
 -- past it
 pub place_cut : (d t : List ℕ) (c : ℕ) → d ≡ encode c → IsUtf8 t → nat_lt (place_of d t) (length t) ≡ true → CutsAt t (place_of d t + length d)

@@ -6,7 +6,7 @@ use Rattle.page_core_base.specs.declared.limits.TheConstants.{LINE}
 use Rattle.page_roff_blocks.specs.declared.line_parts.LinePart.{LinePart}
 use Rattle.page_roff_blocks.specs.declared.line_places.LinePlace.{LinePlace}
 use Rattle.page_roff_blocks.specs.Parts.{line_parts}
-use Rattle.page_roff_blocks.specs.laws.Views.{ReadsNext, BlockCursor, at_line, after_part, way_of, open_loop, skip, passed}
+use Rattle.page_roff_blocks.specs.laws.Views.{ReadsNext, BlockCursor, at_line, after_part, open_loop, skip, passed}
 use Rattle.page_roff_blocks.specs.declared.block_cursors.Pass.{Pass}
 use Rattle.page_roff_blocks.specs.declared.block_cursors.Pass.TheVariants as passes
 use Rattle.page_roff_syntax.specs.Regions.{Opened}

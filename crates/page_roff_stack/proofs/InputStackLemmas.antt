@@ -20,7 +20,7 @@ use Rattle.page_roff_stack.specs.machine.Changes.{page_line, page_passed, in_tur
 use Rattle.page_roff_stack.specs.machine.Held.{kind_in}
 use Rattle.page_roff_stack.specs.machine.InputStacks.{frames_in, stack_of, room_for, texts_in, AreHeld, IsStack}
 use Rattle.page_roff_stack.specs.machine.InputFrames.{frame_of, IsHeld}
-use Rattle.page_roff_stack.specs.machine.Stacks.{Stack, AreStacked, first_text, call_of, loop_of}
+use Rattle.page_roff_stack.specs.machine.Stacks.{Stack, first_text, call_of, loop_of}
 use Rattle.page_roff_stack.specs.machine.Views.{packed_text, unpacked}
 
 turn_kind_of : (turning : Option Turning) (f : Frame) → (in_turn_of turning f).kind ≡ f.kind

@@ -1,5 +1,5 @@
 -- A source that begins: helpers of proofs.
-use Rattle.std.proofs.Common.{◌≡◌, ℕ, false, suc, ◌-◌, ◌<◌, ◌≤◌, ◌^◌, List, [], ◌∷◌, ◌++◌, length, take, drop, Option, Some, None, refl, sym, ap, ◌∙◌, append_assoc, arith, length-append}
+use Rattle.std.proofs.Common.{◌≡◌, ℕ, false, suc, ◌-◌, ◌<◌, ◌≤◌, ◌^◌, List, [], ◌∷◌, ◌++◌, length, take, drop, Option, Some, None, refl, ap, ◌∙◌, append_assoc, arith, length-append}
 use Rattle.std.proofs.Math.Seq.{take-append_seam, drop-append_seam}
 use Rattle.page_core_base.specs.Texts.{IsLine}
 use Rattle.page_core_base.specs.declared.limits.TheConstants.{BODY, LINE}

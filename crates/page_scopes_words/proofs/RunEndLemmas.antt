@@ -29,9 +29,6 @@ other_lane mark x = bit_or (strange_lane x) (bit_or (cond (eqb x 92) 255 0) (con
 abbrev pub blank_lane : ℕ → ℕ
 blank_lane x = cond (eqb x 32) 255 0
 
-pub strange : (x : ℕ) → (ltb x 32 || ltb 126 x) ≡ not (is_printable x)
-strange x = grind (arith, nat_tests)
-
 lane : (quoted : Bool) (mark x y : ℕ) → mark ≡ (if quoted then 34 else 92)
     → top 7 (bit_or (hyphen_lane x) (bit_or (other_lane mark x) (bit_and (blank_lane x) (blank_lane y)))) ≡ ends_run quoted x y
 lane quoted mark x y e = grind (arith, nat_tests)

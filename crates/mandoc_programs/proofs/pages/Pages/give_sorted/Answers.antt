@@ -1,4 +1,4 @@
-use Rattle.std.proofs.Common.{List, map, nat_cmp}
+use Rattle.std.proofs.Common.{map, nat_cmp}
 use Rattle.std.specs.Prelude.{string_bytes}
 use Rattle.std.specs.Cmp.Lexicographic.{slice_cmp}
 use Rattle.std.proofs.lemmas.List.Sorted.{IsPermutation-map}

@@ -1,6 +1,6 @@
 use Rattle.std.proofs.Common.{◌≡◌, length, take, sym, ap, ◌∙◌, arith}
 use Rattle.std.proofs.lemmas.List.{length-take-le}
-use Rattle.page_core_base.specs.laws.Views.{AreAscii, cells_in, is_printable_ascii}
+use Rattle.page_core_base.specs.laws.Views.{AreAscii, is_printable_ascii}
 use Rattle.page_core_base.specs.Rows.{is_blank_row, row_of}
 use Rattle.page_fill_cells.proofs.PlaceLemmas.{all-held, front-row, printable-ascii, slices}
 use Rattle.page_fill_cells.proofs.ascii_places.AsciiPlaces.give.Goals as goal
