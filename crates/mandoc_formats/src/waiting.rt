@@ -28,11 +28,11 @@ pub trait Buffered: Target {
         ensures { Writes result (Self.contents self.old) (Self.contents self.new) (flat_map (λ text. text.now) texts.now) };
 }
 
-/// A writer, and at most `ROOM` bytes that wait for it.
+/// A writer, and at most 8,192 bytes that wait for it.
 #[derive(Drop)]
-pub struct Waiting<W, const ROOM: usize> {
+pub struct Waiting<W> {
     out: W,
-    bytes: ArrayVec<u8, ROOM>,
+    bytes: ArrayVec<u8, 8192>,
 }
 
 // Writes a front of bytes, and answers how many: all, where nothing fails.
@@ -54,9 +54,9 @@ fn write_front<W: Write>(out: &mut W, bytes: &[u8]) -> usize
     sent
 }
 
-impl<W: Write, const ROOM: usize> Waiting<W, ROOM> {
+impl<W: Write> Waiting<W> {
     /// Nothing waits for a writer yet.
-    pub fn new(out: W) -> Waiting<W, ROOM>
+    pub fn new(out: W) -> Waiting<W>
         ensures out { result.out ≡ out }
         ensures bytes { result.bytes.items ≡ [] }
     {
@@ -91,7 +91,7 @@ impl<W: Write, const ROOM: usize> Waiting<W, ROOM> {
 
 // Forgets bytes that were sent.
 #[cold]
-fn keep_rest<const ROOM: usize>(bytes: &mut ArrayVec<u8, ROOM>, sent: usize)
+fn keep_rest(bytes: &mut ArrayVec<u8, 8192>, sent: usize)
     requires { sent ≤ length bytes.old.items }
     ensures { bytes.new.items ≡ drop sent bytes.old.items }
 {
@@ -104,7 +104,7 @@ fn keep_rest<const ROOM: usize>(bytes: &mut ArrayVec<u8, ROOM>, sent: usize)
     }
 }
 
-impl<W: Write, const ROOM: usize> Target for Waiting<W, ROOM> {
+impl<W: Write> Target for Waiting<W> {
     ghost use Rattle.std.specs.Prelude.{false};
 
     ghost contents = { λ s. append_known (W.contents s.out) s.bytes.items };
@@ -128,7 +128,7 @@ impl<W: Write, const ROOM: usize> Target for Waiting<W, ROOM> {
     }
 }
 
-impl<W: Write, const ROOM: usize> Buffered for Waiting<W, ROOM> {
+impl<W: Write> Buffered for Waiting<W> {
     ghost waits = { λ s. s.bytes.items };
 
     fn put_all_out(&mut self) -> bool {

@@ -188,7 +188,7 @@ fn finish_index<R: Folders, P: IndexPlaces, V: Buffered>(
         × Grows (V.contents err.old) (V.contents err.new) part.err
         × Grows (P.put places.old) (P.put places.new) (puts Index pages.now.dir.now part result) }
 {
-    let mut index = Waiting::<_, 8192>::new(file);
+    let mut index = Waiting::new(file);
     let written = write_index(pages, &mut index, err);
     let file = index.into_inner();
     match written {

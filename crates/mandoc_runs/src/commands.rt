@@ -26,7 +26,7 @@ pub fn run_command<R: LockedFiles, I: Read, W: Write, V: Write>(
         alloc,
         command,
         input,
-        &mut Waiting::<_, 8192>::new(out),
-        &mut Waiting::<_, 512>::new(err),
+        &mut Waiting::new(out),
+        &mut Waiting::new(err),
     )
 }
