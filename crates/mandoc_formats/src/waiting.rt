@@ -28,11 +28,11 @@ pub trait Buffered: Target {
         ensures { Writes result (Self.contents self.old) (Self.contents self.new) (flat_map (λ text. text.now) texts.now) };
 }
 
-/// A writer, and at most 8,192 bytes that wait for it.
+/// A writer, and at most 4,096 bytes that wait for it.
 #[derive(Drop)]
 pub struct Waiting<W> {
     out: W,
-    bytes: ArrayVec<u8, 8192>,
+    bytes: ArrayVec<u8, 4096>,
 }
 
 // Writes a front of bytes, and answers how many: all, where nothing fails.
@@ -91,7 +91,7 @@ impl<W: Write> Waiting<W> {
 
 // Forgets bytes that were sent.
 #[cold]
-fn keep_rest(bytes: &mut ArrayVec<u8, 8192>, sent: usize)
+fn keep_rest(bytes: &mut ArrayVec<u8, 4096>, sent: usize)
     requires { sent ≤ length bytes.old.items }
     ensures { bytes.new.items ≡ drop sent bytes.old.items }
 {
