@@ -1,3 +1,4 @@
+pub mod Bytes
 pub mod Limits
 pub mod Messages
 pub mod Rows

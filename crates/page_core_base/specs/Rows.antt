@@ -1,6 +1,7 @@
 -- Rows and their cells, the pieces that they are filled with, and the rows and messages that are settled. Source: mandoc(1), DESCRIPTION.
 use Rattle.std.specs.Char.{is_ascii_alphabetic}
 use Rattle.std.specs.Prelude.{ℕ, List, Bool, ◌==◌, [], ◌∷◌, if◌then◌else◌, length, false, ◌&&◌, ◌++◌}
+use Rattle.page_core_base.specs.Bytes.{ascii}
 use Rattle.page_core_base.specs.Messages.{Message}
 use Rattle.page_core_base.specs.declared.cells.Cell.{Cell}
 use Rattle.page_core_base.specs.declared.cells.Font.{Font}
@@ -19,7 +20,7 @@ abbrev pub row_of : ℕ → List Cell → LaidRow
 row_of margin cells = record { margin = margin; cells = cells }
 
 abbrev pub is_blank : Cell → Bool
-is_blank cell = cell.c == 32
+is_blank cell = cell.c == ascii " "
 
 -- the cells without the blanks at their end
 abbrev pub trimmed_before : Cell → List Cell → List Cell

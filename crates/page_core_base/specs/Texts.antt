@@ -1,5 +1,6 @@
 -- The text of a line, and a finished line as a set of macros reads it. Source: roff(7), "Language syntax".
 use Rattle.std.specs.Prelude.{ℕ, Bool, not, ◌&&◌, ◌||◌, ◌==◌, nat_lt, true, List, [], ◌∷◌, ◌≤◌, ◌≡◌, length, IsUtf8, if◌then◌else◌}
+use Rattle.page_core_base.specs.Bytes.{ascii}
 use Rattle.page_core_base.specs.Limits.{LINE}
 use Rattle.page_core_base.specs.declared.lines_taken.Form.{Form}
 
@@ -7,7 +8,8 @@ use Rattle.page_core_base.specs.declared.lines_taken.Form.{Form}
 
 -- a byte after another belongs to no control character but the tab; of those above ASCII the first byte is 0xC2 and the second below 0xA0
 abbrev pub is_no_control : ℕ → ℕ → Bool
-is_no_control before byte = byte == 9 || (not (nat_lt byte 32) && not (byte == 127) && not (before == 194 && nat_lt byte 160))
+is_no_control before byte =
+    byte == ascii "\t" || (not (nat_lt byte (ascii " ")) && not (byte == 0x7F) && not (before == 0xC2 && nat_lt byte 0xA0))
 
 abbrev pub has_no_control : ℕ → List ℕ → Bool
 has_no_control before [] = true
@@ -19,11 +21,11 @@ pub record IsLine (text : List ℕ) : Type 0 where
   pub bounded : length text ≤ LINE
   pub plain : has_no_control 0 text ≡ true
 
--- what a quoted argument says: a pair of quotes (34) is one quote
+-- what a quoted argument says: a pair of quotes is one quote
 abbrev pub unpaired : List ℕ → List ℕ
 unpaired [] = []
 unpaired (byte ∷ []) = byte ∷ []
-unpaired (byte ∷ next ∷ bytes) = if byte == 34 && next == 34 then 34 ∷ unpaired bytes else byte ∷ unpaired (next ∷ bytes)
+unpaired (byte ∷ next ∷ bytes) = if byte == ascii "\"" && next == ascii "\"" then ascii "\"" ∷ unpaired bytes else byte ∷ unpaired (next ∷ bytes)
 
 -- ---- A finished line, as a set of macros reads it. Source: roff(7), "LANGUAGE SYNTAX".
 

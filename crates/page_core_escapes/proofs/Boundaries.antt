@@ -10,11 +10,12 @@ use Rattle.std.proofs.lemmas.Slice.Eq.{starts_is}
 use Rattle.std.proofs.lemmas.List.{drop-drop, length-drop, length-append, get_or-drop}
 use Rattle.std.proofs.lemmas.List.Quantifiers.{position-Some}
 use Rattle.std.proofs.lemmas.Str.{IsUtf8-drop, IsUtf8-past_char, IsCharBoundary-after_ascii}
+use Rattle.page_core_base.specs.Bytes.{is_sign, is_among}
 use Rattle.page_core_escapes.specs.declared.letters.Shape.{Shape}
 use Rattle.page_core_escapes.specs.declared.letters.Shape.TheVariants.{Alone, Glyph, Name, Size, Quoted}
 use Rattle.page_core_escapes.specs.declared.extents.Extent.{Extent}
 use Rattle.page_core_escapes.specs.declared.extents.Extent.TheVariants.{Whole, QuotedFrom}
-use Rattle.page_core_escapes.specs.Lengths.{is_among, letter_of, is_sign, after_sign, begins_size, shape_of, character_len, two_characters_len, bracketed_len, name_len, has_two_digits, number_len, sign_len, number_extent, extent_by, extent_of, quoted_len, extent_len, escape_len_by, content_len_within, content_len, escape_len}
+use Rattle.page_core_escapes.specs.Lengths.{letter_of, after_sign, begins_size, shape_of, character_len, two_characters_len, bracketed_len, name_len, has_two_digits, number_len, sign_len, number_extent, extent_by, extent_of, quoted_len, extent_len, escape_len_by, content_len_within, content_len, escape_len}
 use Rattle.page_core_escapes.proofs.LetterLemmas.{follows, shape_ascii}
 use Rattle.page_core_escapes.proofs.Characters.{CutsAt, CutsAt-add, CutsAt-ascii, Taken, character_len-taken, begins_with}
 

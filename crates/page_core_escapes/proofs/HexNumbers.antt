@@ -2,7 +2,7 @@
 use Rattle.std.proofs.Common.{ℕ, ◌+◌, ◌-◌, ◌*◌, ◌<◌, ◌≤◌, List, [], ◌∷◌, length, get_or, take, inl, inr, arith}
 use Rattle.std.proofs.lemmas.Bool.{cond_both, cases_lt}
 use Rattle.std.proofs.lemmas.List.{length-take, get_or-take, get_or_past}
-use Rattle.page_core_escapes.specs.Lengths.{is_digit}
+use Rattle.page_core_base.specs.Bytes.{is_digit}
 use Rattle.page_core_escapes.specs.Meanings.{hex_value, hex_number}
 
 hex_value-le : (b : ℕ) → hex_value b ≤ b

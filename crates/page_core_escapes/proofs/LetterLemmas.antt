@@ -3,9 +3,10 @@ use Rattle.std.proofs.Common.{◌≡◌, ℕ, ◌<◌, ◌≤◌, Bool, true, fa
 use Rattle.std.specs.List.{list_all}
 use Rattle.std.proofs.lemmas.Bool.{cases_lt, and_parts, cond-false}
 use Rattle.std.proofs.lemmas.Bool.Decides.{nat_tests}
+use Rattle.page_core_base.specs.Bytes.{is_among}
 use Rattle.page_core_escapes.specs.declared.letters.Shape.{Shape}
 use Rattle.page_core_escapes.specs.declared.letters.Shape.TheVariants.{Alone, Size}
-use Rattle.page_core_escapes.specs.Lengths.{is_among, EscapeRow, table, another, letter_of, after_sign, begins_size, shape_before, shape_of}
+use Rattle.page_core_escapes.specs.Lengths.{EscapeRow, table, another, letter_of, after_sign, begins_size, shape_before, shape_of}
 
 abbrev is_ascii : EscapeRow → Bool
 is_ascii r = list_all (λ k. nat_lt k 128) r.keys

@@ -3,8 +3,9 @@ use Rattle.std.proofs.Common.{◌≡◌, ℕ, zero, suc, ◌-◌, ◌<◌, ◌�
 use Rattle.std.specs.List.{prefix_len}
 use Rattle.std.proofs.lemmas.Bool.Decides.{nat_tests}
 use Rattle.std.proofs.lemmas.List.{length-take}
+use Rattle.page_core_base.specs.Bytes.{is_white, begins_white, begins_escape, begins_quote}
 use Rattle.page_core_escapes.specs.Meanings.{escape_of}
-use Rattle.page_core_escapes.specs.Tokens.{TextToken, begins_escape, begins_quote, begins_white, is_space, is_white, prints_itself, token_at, token_bytes, token_len, tokens_len, tokens_within, tokens_of}
+use Rattle.page_core_escapes.specs.Tokens.{TextToken, is_space, prints_itself, token_at, token_bytes, token_len, tokens_len, tokens_within, tokens_of}
 use Rattle.page_core_escapes.specs.laws.Views.{begins_word}
 
 -- more tokens than bytes make no difference

@@ -1,7 +1,9 @@
 -- Where an escape ends. Source: roff(7), "Escape sequences".
-use Rattle.std.specs.List.{list_any, starts_with}
+use Rattle.std.specs.List.{starts_with}
 use Rattle.std.specs.Prelude.{ℕ, Bool, ◌==◌, List, ◌&&◌, nat_le, [], ◌∷◌, codes, find, option_map, unwrap_or, ◌+◌, length, if◌then◌else◌, Option, Some, None, position, ◌||◌, true, false, drop, nat_eq, option_and_then, zero, suc, take}
 use Rattle.std.specs.Str.{continuation_len}
+use Rattle.std.specs.Int.{is_in_range}
+use Rattle.page_core_base.specs.Bytes.{ascii, is_among, is_digit, is_sign}
 use Rattle.page_core_escapes.specs.declared.extents.Extent.{Extent}
 use Rattle.page_core_escapes.specs.declared.extents.Extent.TheVariants.{Whole, QuotedFrom}
 use Rattle.page_core_escapes.specs.declared.letters.LetterKind.{LetterKind}
@@ -10,45 +12,6 @@ use Rattle.page_core_escapes.specs.declared.letters.Letter.{Letter}
 use Rattle.page_core_escapes.specs.declared.letters.Shape.{Shape}
 use Rattle.page_core_escapes.specs.declared.letters.Shape.TheVariants as follows
 use Rattle.page_core_escapes.specs.declared.letters.Shape.TheVariants.{Alone, Glyph, Name, Size, Quoted}
-
--- ---- Bytes by their characters.
-
-abbrev pub is_among : ℕ → List ℕ → Bool
-is_among key keys = list_any (λ k. key == k) keys
-
-abbrev pub is_digit : ℕ → Bool
-is_digit b = nat_le 0x30 b && nat_le b 0x39
-
-abbrev pub backslash : ℕ
-backslash = 0x5C
-
--- '
-abbrev pub quote : ℕ
-quote = 0x27
-
--- "
-abbrev pub double_quote : ℕ
-double_quote = 0x22
-
-abbrev pub plus : ℕ
-plus = 0x2B
-
-abbrev pub minus : ℕ
-minus = 0x2D
-
--- ( and )
-abbrev pub parenthesis : ℕ
-parenthesis = 0x28
-
-abbrev pub closing_parenthesis : ℕ
-closing_parenthesis = 0x29
-
--- [ and ]
-abbrev pub bracket : ℕ
-bracket = 0x5B
-
-abbrev pub closing_bracket : ℕ
-closing_bracket = 0x5D
 
 -- ---- The escapes by the character after the backslash, their letter: what follows it, and what the escape means. Source: roff(7), "Escape
 -- sequences"; mandoc_char(7).
@@ -66,12 +29,12 @@ table =
     row (codes "(") follows.Glyph means.Glyph ∷
     row (codes "[") follows.Glyph means.CodePoint ∷
     row (codes "C") follows.Quoted means.Glyph ∷
-    row (codes "e\\") follows.Alone (means.Char backslash) ∷
-    row (codes "-") follows.Alone (means.Char minus) ∷
-    -- an acute accent, a grave accent and a full stop
+    row (codes "e\\") follows.Alone (means.Char (ascii "\\")) ∷
+    row (codes "-") follows.Alone (means.Char (ascii "-")) ∷
+    -- an acute accent
     row (codes "'") follows.Alone (means.Char 0xB4) ∷
-    row (codes "`") follows.Alone (means.Char 0x60) ∷
-    row (codes ".") follows.Alone (means.Char 0x2E) ∷
+    row (codes "`") follows.Alone (means.Char (ascii "`")) ∷
+    row (codes ".") follows.Alone (means.Char (ascii ".")) ∷
     row (codes "t") follows.Alone means.Tab ∷
     row (codes " ~0") follows.Alone means.Blank ∷
     row (codes "h") follows.Quoted means.Blanks ∷
@@ -103,16 +66,13 @@ character_len (b ∷ bs) = if nat_le (continuation_len b) (length bs) then Some 
 
 -- in a quoted argument of a macro a pair of quotes is one quote
 abbrev pub pair : List ℕ
-pair = double_quote ∷ double_quote ∷ []
+pair = codes "\"\""
 
 -- the bytes up to and with the first bracket that closes
 abbrev pub bracketed_len : List ℕ → Option ℕ
-bracketed_len text = option_map (λ k. k + 1) (position (λ b. b == closing_bracket) text)
+bracketed_len text = option_map (λ k. k + 1) (position (λ b. b == ascii "]") text)
 
 -- ---- sizes: in parentheses, brackets or quotes, or of digits, perhaps with a sign before
-
-abbrev pub is_sign : ℕ → Bool
-is_sign b = b == plus || b == minus
 
 abbrev pub sign_len : List ℕ → ℕ
 sign_len [] = 0
@@ -129,7 +89,7 @@ begins_size (b ∷ bs) = is_among b (codes "(['") || is_digit b
 
 -- two digits where the first is 1 to 3
 abbrev pub has_two_digits : List ℕ → Bool
-has_two_digits (b ∷ d ∷ ds) = nat_le 0x31 b && nat_le b 0x33 && is_digit d
+has_two_digits (b ∷ d ∷ ds) = is_in_range (ascii "1") (ascii "3") b && is_digit d
 has_two_digits _ = false
 
 -- ---- shapes
@@ -157,8 +117,8 @@ module _ (pairs : Bool) where
   abbrev pub name_len : List ℕ → Option ℕ
   name_len [] = None
   name_len (b ∷ bs) =
-      if b == parenthesis then option_map (λ k. k + 1) (two_characters_len bs)
-      else (if b == bracket then option_map (λ k. k + 1) (bracketed_len bs)
+      if b == ascii "(" then option_map (λ k. k + 1) (two_characters_len bs)
+      else (if b == ascii "[" then option_map (λ k. k + 1) (bracketed_len bs)
       else written_len (b ∷ bs))
 
   -- a size that isn't quoted: two characters in parentheses, brackets, two digits or one
@@ -171,7 +131,7 @@ module _ (pairs : Bool) where
   -- an escape with a size that begins after `before` bytes of it
   abbrev pub number_extent : (before : ℕ) → List ℕ → Option Extent
   number_extent before [] = None
-  number_extent before (b ∷ bs) = if b == quote then Some (QuotedFrom before) else option_map (λ k. Whole (before + k)) (number_len (b ∷ bs))
+  number_extent before (b ∷ bs) = if b == ascii "'" then Some (QuotedFrom before) else option_map (λ k. Whole (before + k)) (number_len (b ∷ bs))
 
   -- an escape of a shape, by its letter and what follows it
   abbrev pub extent_by : Shape → ℕ → List ℕ → Option Extent
@@ -210,7 +170,7 @@ module _ (pairs : Bool) where
   content_len_within zero delimiter text = None
   content_len_within (suc steps) delimiter [] = None
   content_len_within (suc steps) delimiter (b ∷ bs) =
-      if b == backslash then option_and_then (λ n. option_map (λ k. n + k) (content_len_within steps delimiter (drop n (b ∷ bs)))) (escape_len_by (content_len_within steps) (b ∷ bs))
+      if b == ascii "\\" then option_and_then (λ n. option_map (λ k. n + k) (content_len_within steps delimiter (drop n (b ∷ bs)))) (escape_len_by (content_len_within steps) (b ∷ bs))
       else (if starts_with nat_eq (b ∷ bs) delimiter then Some 0
       else option_map (λ k. 1 + k) (content_len_within steps delimiter bs))
 

@@ -2,7 +2,9 @@
 use Rattle.std.specs.List.{list_all, list_any}
 use Rattle.std.specs.Prelude.{ℕ, List, ◌-◌, length, take, ◌==◌, [], ◌∷◌, if◌then◌else◌, Bool, drop, unwrap_or, ◌&&◌, ◌||◌, nat_le, ◌+◌, ◌*◌, fold, not, false, codes, true, slice_index, Option, Some, None}
 use Rattle.std.specs.Str.{bytes_eq, chars, is_utf8}
-use Rattle.page_core_escapes.specs.Lengths.{parenthesis, bracket, written_len, is_digit, letter_of, escape_len}
+use Rattle.std.specs.Int.{is_in_range}
+use Rattle.page_core_base.specs.Bytes.{is_digit, ascii}
+use Rattle.page_core_escapes.specs.Lengths.{written_len, letter_of, escape_len}
 use Rattle.page_core_escapes.specs.declared.letters.LetterKind.{LetterKind}
 use Rattle.page_core_escapes.specs.declared.letters.LetterKind.TheVariants as means
 use Rattle.page_core_escapes.specs.declared.letters.Letter.{Letter}
@@ -49,7 +51,7 @@ without_last bs = take (length bs - 1) bs
 -- a name that was written as `x`, `(xx` or `[name]`
 abbrev pub bare_name : List ℕ → List ℕ
 bare_name [] = []
-bare_name (b ∷ bs) = if b == parenthesis then bs else (if b == bracket then without_last bs else b ∷ bs)
+bare_name (b ∷ bs) = if b == ascii "(" then bs else (if b == ascii "[" then without_last bs else b ∷ bs)
 
 -- an argument that was written between two delimiters; a pair of quotes may be one
 abbrev pub bare_quoted : (pairs : Bool) → List ℕ → List ℕ
@@ -59,10 +61,10 @@ bare_quoted pairs bs = let mark = unwrap_or (written_len pairs bs) 0 in take (le
 
 -- 0 to 9 and A to F
 abbrev pub is_hex_digit : ℕ → Bool
-is_hex_digit b = is_digit b || (nat_le 0x41 b && nat_le b 0x46)
+is_hex_digit b = is_digit b || is_in_range (ascii "A") (ascii "F") b
 
 abbrev pub hex_value : ℕ → ℕ
-hex_value b = if is_digit b then b - 0x30 else b - 0x37
+hex_value b = if is_digit b then b - ascii "0" else b - (ascii "A" - 10)
 
 abbrev pub hex_number : List ℕ → ℕ
 hex_number digits = fold (λ n b. n * 16 + hex_value b) 0 digits
@@ -75,7 +77,7 @@ is_code_point c = nat_le 0xA0 c && (nat_le c 0x10FFFF && not (nat_le 0xD800 c &&
 abbrev pub names_code_point : List ℕ → Bool
 names_code_point [] = false
 names_code_point (b ∷ digits) =
-    (b == 0x75) && (nat_le 4 (length digits) && (nat_le (length digits) 6 && (list_all is_hex_digit digits && is_code_point (hex_number digits))))
+    (b == ascii "u") && (nat_le 4 (length digits) && (nat_le (length digits) 6 && (list_all is_hex_digit digits && is_code_point (hex_number digits))))
 
 abbrev pub bracketed : List ℕ → Meaning
 bracketed name = if names_code_point name then character (hex_number (drop 1 name)) else glyph name

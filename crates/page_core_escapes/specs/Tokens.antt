@@ -2,6 +2,7 @@
 -- Source: roff(7), "LANGUAGE SYNTAX", "Macro syntax" and "ESCAPE SEQUENCES".
 use Rattle.std.specs.List.{prefix_len}
 use Rattle.std.specs.Prelude.{ℕ, List, Bool, true, false, ◌==◌, ◌||◌, not, ◌&&◌, [], ◌∷◌, take, if◌then◌else◌, length, zero, suc, ◌-◌, drop, ◌+◌}
+use Rattle.page_core_base.specs.Bytes.{ascii, is_white, begins_white, begins_escape, begins_quote}
 use Rattle.page_core_escapes.specs.Meanings.{Meaning, escape_of}
 use Rattle.page_core_escapes.specs.declared.tokens.Token.TheVariants as tokens
 
@@ -26,25 +27,9 @@ abbrev pub is_space : TextToken → Bool
 is_space (white bytes) = true
 is_space _ = false
 
--- a blank or a tab
-abbrev pub is_white : ℕ → Bool
-is_white byte = byte == 32 || byte == 9
-
 -- neither white space nor a backslash, and in a quoted argument no quote
 abbrev pub prints_itself : Bool → ℕ → Bool
-prints_itself quoted byte = not (is_white byte || (byte == 92 || (quoted && byte == 34)))
-
-abbrev pub begins_white : List ℕ → Bool
-begins_white [] = false
-begins_white (byte ∷ bytes) = is_white byte
-
-abbrev pub begins_escape : List ℕ → Bool
-begins_escape [] = false
-begins_escape (byte ∷ bytes) = byte == 92
-
-abbrev pub begins_quote : List ℕ → Bool
-begins_quote [] = false
-begins_quote (byte ∷ bytes) = byte == 34
+prints_itself quoted byte = not (is_white byte || (byte == ascii "\\" || (quoted && byte == ascii "\"")))
 
 -- the token at a text's front
 unfoldable pub token_at : Bool → List ℕ → TextToken

@@ -3,9 +3,10 @@
 ghost use Rattle.std.specs.Prelude.{◌≡◌, ◌≤◌, ◌<◌, length, map, not, slice_index, if◌then◌else◌, IfSome};
 ghost use Rattle.std.specs.List.{prefix_len};
 ghost use Rattle.std.specs.Simd.Lanes.{mask_l};
+ghost use Rattle.page_core_base.specs.Bytes.{is_white, begins_white, begins_escape, begins_quote};
 ghost use Rattle.page_core_escapes.specs.laws.Views.{face_view, meaning_view, begins_word, token_view};
 ghost use Rattle.page_core_escapes.specs.machine.ShortEscapes.{ShortEscape, ShortFont};
-ghost use Rattle.page_core_escapes.specs.Tokens.{is_white, begins_white, begins_escape, begins_quote, prints_itself, token_at, token_bytes};
+ghost use Rattle.page_core_escapes.specs.Tokens.{prints_itself, token_at, token_bytes};
 
 use crate::meaning::font_by_letter;
 use crate::{Escape, FontName, read_escape};

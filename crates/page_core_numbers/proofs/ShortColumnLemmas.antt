@@ -7,8 +7,9 @@ use Rattle.std.proofs.Math.Dec.{leb-zero}
 use Rattle.std.proofs.lemmas.Bool.{and_parts, cases_Bool, cond-true, eqb-true, ltb-true}
 use Rattle.std.proofs.lemmas.Bool.Decides.{nat_tests}
 use Rattle.std.proofs.lemmas.Str.{byte_from_char}
+use Rattle.page_core_base.specs.Bytes.{is_among}
 use Rattle.page_core_base.specs.declared.page_settings.Output.{Output}
-use Rattle.page_core_escapes.specs.Lengths.{is_among, character_len, written_len, name_len, extent_len, escape_len_by, escape_len, letter_of}
+use Rattle.page_core_escapes.specs.Lengths.{character_len, written_len, name_len, extent_len, escape_len_by, escape_len, letter_of}
 use Rattle.page_core_escapes.proofs.LetterLemmas.{is_alone, shape_alone}
 use Rattle.page_core_escapes.specs.Meanings.{escape_of, Meaning, glyph, character, tab, blank, nothing, glue, undefined, unsupported, first_char, letter_meaning, meaning_of}
 use Rattle.page_core_tables.specs.Glyphs.{char_printed}

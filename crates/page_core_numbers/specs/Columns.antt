@@ -1,9 +1,9 @@
 -- What a finished text prints, and the columns of that: mandoc_char(7); roff(7), "Escape sequences"; mandoc(1), -T ascii and -T utf8.
 use Rattle.std.specs.Prelude.{ℕ, List, sum_by, ◌/◌, min, ℤ, pos, negsuc, [], replicate, codes, ◌==◌, false, ◌∷◌, if◌then◌else◌, length, encode_utf8, zero, suc, ◌++◌, drop}
 use Rattle.std.specs.Str.{chars}
+use Rattle.page_core_base.specs.Bytes.{ascii}
 use Rattle.page_core_base.specs.declared.page_settings.Output.{Output}
 use Rattle.page_core_tables.specs.Glyphs.{char_columns, char_printed, glyph_printed}
-use Rattle.page_core_escapes.specs.Lengths.{backslash}
 use Rattle.page_core_escapes.specs.Meanings as escapes
 use Rattle.page_core_escapes.specs.Meanings.{Meaning, escape_of}
 use Rattle.page_core_numbers.specs.Expressions.{expression_of}
@@ -38,12 +38,12 @@ printed_escape output _ = []
 -- what is at a text's front, where the text's characters are known: an escape, or a character
 abbrev pub printed_front : Output → List ℕ → List ℕ → List ℕ
 printed_front output text [] = []
-printed_front output text (c ∷ cs) = if c == backslash then printed_escape output (escape_of false text).0 else (char_printed output c).characters
+printed_front output text (c ∷ cs) = if c == ascii "\\" then printed_escape output (escape_of false text).0 else (char_printed output c).characters
 
 -- how many bytes that takes
 abbrev pub front_len : List ℕ → List ℕ → ℕ
 front_len text [] = 0
-front_len text (c ∷ cs) = if c == backslash then (escape_of false text).1 else length (encode_utf8 c)
+front_len text (c ∷ cs) = if c == ascii "\\" then (escape_of false text).1 else length (encode_utf8 c)
 
 -- a text's escapes and characters from left to right; `steps` is above the number of bytes
 unfoldable pub printed_within : (steps : ℕ) → Output → List ℕ → List ℕ

@@ -2,12 +2,12 @@
 use Rattle.std.specs.Int.{w32, saturate_signed, is_positive}
 use Rattle.std.specs.List.{prefix_len}
 use Rattle.std.specs.Prelude.{ℕ, codes, if◌then◌else◌, Option, Some, None, ℤ, List, take, drop, ◌==◌, [], ◌∷◌, is_some, ◌+◌, ◌-◌, ◌*◌, fold, ◌++◌, ◌/◌, unwrap_or, pos, length, Bool, false, ◌&&◌, option_map, true, negsuc, ◌||◌, ◌+ℤ◌, ◌-ℤ◌, ◌*ℤ◌, int_div, int_rem, int_lt, int_le, neg_ℤ, zero, suc, map}
+use Rattle.page_core_base.specs.Bytes.{is_among, is_digit, ascii}
 use Rattle.page_core_base.specs.Limits.{name_of}
 use Rattle.page_core_base.specs.Messages.{Message}
 use Rattle.page_core_base.specs.declared.limits.Limit.TheVariants.{Parens}
 use Rattle.page_core_base.specs.declared.note_kinds.NoteKind.{NoteKind}
 use Rattle.page_core_base.specs.declared.note_kinds.NoteKind.TheVariants as kinds
-use Rattle.page_core_escapes.specs.Lengths.{is_among, is_digit, closing_parenthesis, plus, minus, parenthesis}
 use Rattle.page_core_numbers.specs.declared.operators.Operator.{Operator}
 use Rattle.page_core_numbers.specs.declared.operators.Operator.TheVariants.{Add, Subtract, Multiply, Divide, Remainder, Less, Greater, AtMost, AtLeast, Equal, And, Or}
 use Rattle.page_core_numbers.specs.declared.scales.Scale.{Scale}
@@ -60,17 +60,14 @@ digits_of text = take (prefix_len is_digit text) text
 abbrev pub after_digits : List ℕ → List ℕ
 after_digits text = drop (prefix_len is_digit text) text
 
-abbrev pub point : ℕ
-point = 0x2E
-
 -- the digits after a point, where a text begins with one
 abbrev pub fraction_of : List ℕ → List ℕ
 fraction_of [] = []
-fraction_of (b ∷ bs) = if b == point then digits_of bs else []
+fraction_of (b ∷ bs) = if b == ascii "." then digits_of bs else []
 
 abbrev pub after_fraction : List ℕ → List ℕ
 after_fraction [] = []
-after_fraction (b ∷ bs) = if b == point then after_digits bs else b ∷ bs
+after_fraction (b ∷ bs) = if b == ascii "." then after_digits bs else b ∷ bs
 
 -- the unit at a text's front
 abbrev pub scale_at : List ℕ → Option Scale
@@ -82,11 +79,8 @@ after_scale text = if is_some (scale_at text) then drop 1 text else text
 
 -- ---- what a number is worth
 
-abbrev pub zero_digit : ℕ
-zero_digit = 0x30
-
 abbrev pub decimal : List ℕ → ℕ
-decimal digits = fold (λ n b. n * 10 + (b - zero_digit)) 0 digits
+decimal digits = fold (λ n b. n * 10 + (b - ascii "0")) 0 digits
 
 -- the digits after a point in ten-thousandths: four of them count
 abbrev pub ten_thousandths : List ℕ → ℕ
@@ -191,7 +185,7 @@ number text (Some found) = record { value = Some found.0; troubles = []; ends = 
 -- a parenthesis that closes is taken; where it is missing it is taken as there
 abbrev pub after_close : List ℕ → List ℕ
 after_close [] = []
-after_close (b ∷ bs) = if b == closing_parenthesis then bs else b ∷ bs
+after_close (b ∷ bs) = if b == ascii ")" then bs else b ∷ bs
 
 -- An expression in parentheses. Where it ends early, what is around it ends with it, and its value so far is the operand.
 abbrev pub in_parentheses : Read ℤ → Read (Option ℤ)
@@ -214,9 +208,9 @@ negated_operand operand = record operand { value = option_map (λ n. in_range (n
 unfoldable pub operand_by : (inside : Option (List ℕ → Read ℤ)) → Scale → List ℕ → Read (Option ℤ)
 operand_by inside scale [] = no_operand NotNumeric []
 operand_by inside scale (b ∷ bs) =
-    if b == minus then negated_operand (operand_by inside scale bs)
-    else if b == plus then operand_by inside scale bs
-    else if b == parenthesis then operand_inside inside (b ∷ bs) bs
+    if b == ascii "-" then negated_operand (operand_by inside scale bs)
+    else if b == ascii "+" then operand_by inside scale bs
+    else if b == ascii "(" then operand_inside inside (b ∷ bs) bs
     else number (b ∷ bs) (number_at scale (b ∷ bs))
 
 -- ---- operations

@@ -2,7 +2,7 @@
 
 ghost use Rattle.std.specs.Prelude.{◌≡◌, ◌≤◌, ◌+◌, ◌-◌, length, slice_index_or, min, pos, option_map, IfSome};
 ghost use Rattle.std.specs.List.{prefix_len};
-ghost use Rattle.page_core_escapes.specs.Lengths.{is_digit};
+ghost use Rattle.page_core_base.specs.Bytes.{is_digit};
 ghost use Rattle.page_core_numbers.specs.Expressions.{in_range, digits_of, after_digits, fraction_of, after_fraction, scale_at, after_scale, decimal, ten_thousandths, units_of, number_at};
 ghost use Rattle.page_core_numbers.specs.machine.CodeValues.{number_view};
 

@@ -3,7 +3,7 @@
 
 ghost use Rattle.std.specs.Prelude.{◌*◌, ◌++◌, ◌≡◌, ◌≤◌, ◌<◌, length, take, slice_index, encode_utf8, IfSome, MatchOption, true, false};
 ghost use Rattle.std.specs.Str.{IsUtf8};
-ghost use Rattle.page_core_escapes.specs.Lengths.{backslash, is_among};
+ghost use Rattle.page_core_base.specs.Bytes.{ascii, is_among};
 ghost use Rattle.page_core_escapes.specs.laws.Views.{meaning_view};
 ghost use Rattle.page_core_tables.specs.Glyphs.{prints_ascii, by_spelling, char_printed, spelling_of};
 ghost use Rattle.page_core_tables.specs.laws.Views.{printed_view};
@@ -205,7 +205,7 @@ fn is_undefined(letter: u8) -> bool
 // The columns of the escape at a text's front, and how many bytes it takes, where few bytes say so.
 #[inline(always)]
 fn short_escape(text: &[u8]) -> Option<(u32, usize)>
-    requires { BeginsWith text.now backslash }
+    requires { BeginsWith text.now (ascii "\\") }
     ensures { IfSome result (λ found. ShortColumns text.now found.0 found.1) }
 {
     if text.len() < 2 {
@@ -227,7 +227,7 @@ fn short_escape(text: &[u8]) -> Option<(u32, usize)>
 // The name of the glyph at a text's front, where two bytes of ASCII are it, as in `\(bu`.
 #[inline(always)]
 fn short_glyph(text: &[u8]) -> Option<&[u8]>
-    requires { BeginsWith text.now backslash }
+    requires { BeginsWith text.now (ascii "\\") }
     ensures { IfSome result (λ name. ShortGlyph text.now name.now) }
 {
     if text.len() < 4 || text[1] != b'(' || !text[2].is_ascii() || !text[3].is_ascii() {
@@ -239,7 +239,7 @@ fn short_glyph(text: &[u8]) -> Option<&[u8]>
 // The columns of the escape at a text's front, and how many bytes it takes.
 #[inline(always)]
 fn escape_front(text: &str, output: Output) -> (u32, usize)
-    requires first { BeginsWith text.now backslash }
+    requires first { BeginsWith text.now (ascii "\\") }
     requires line { length text.now ≤ LINE }
     ensures { Front output text.now result.0 result.1 }
 {
@@ -257,7 +257,7 @@ fn escape_front(text: &str, output: Output) -> (u32, usize)
 #[inline(never)]
 fn long_escape(text: &[u8], output: Output) -> (u32, usize)
     requires utf8 { IsUtf8 text.now }
-    requires first { BeginsWith text.now backslash }
+    requires first { BeginsWith text.now (ascii "\\") }
     requires line { length text.now ≤ LINE }
     ensures { Front output text.now result.0 result.1 }
 {

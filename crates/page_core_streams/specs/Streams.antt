@@ -1,6 +1,7 @@
 -- The bytes of rows and messages, and the sinks and sources of bytes. Source: mandoc(1), DESCRIPTION.
 use Rattle.std.specs.Io.KnownBytes.{Consumes}
 use Rattle.std.specs.Prelude.{ℕ, List, ◌∷◌, ◌++◌, encode_utf8, [], if◌then◌else◌, replicate, flat_map, codes, decimal, ◌≡◌, ⊤, Option, None, Some, ◌+◌, ◌-◌, ◌^◌, min, length, ◌≤◌, ◌<◌, ◌⊎◌, Bool, true, false, Result, MatchResult}
+use Rattle.page_core_base.specs.Bytes.{ascii}
 use Rattle.page_core_base.specs.Messages.{Message, level_of, level_name, text_of, Rose}
 use Rattle.page_core_base.specs.Rows.{is_blank, LaidRow, trimmed}
 use Rattle.page_core_base.specs.declared.cells.Cell.{Cell}
@@ -9,21 +10,25 @@ use Rattle.page_core_base.specs.declared.cells.Font.TheVariants.{R, B, I, BI}
 
 -- ---- The bytes of cells and rows. Source: mandoc(1), "ASCII Output".
 
+-- backspace
+abbrev pub backspace : ℕ
+backspace = 8
+
 -- a character in a font: bold is printed over itself, italic over an underscore
 abbrev pub marked_bytes : ℕ → Font → List ℕ
 marked_bytes c R = encode_utf8 c
-marked_bytes c B = encode_utf8 c ++ 8 ∷ encode_utf8 c
-marked_bytes c I = 95 ∷ 8 ∷ encode_utf8 c
-marked_bytes c BI = 95 ∷ 8 ∷ (encode_utf8 c ++ 8 ∷ encode_utf8 c)
+marked_bytes c B = encode_utf8 c ++ backspace ∷ encode_utf8 c
+marked_bytes c I = ascii "_" ∷ backspace ∷ encode_utf8 c
+marked_bytes c BI = ascii "_" ∷ backspace ∷ (encode_utf8 c ++ backspace ∷ encode_utf8 c)
 
 -- a blank is never marked
 abbrev pub cell_bytes_of : Cell → List ℕ
-cell_bytes_of cell = if is_blank cell then 32 ∷ [] else marked_bytes cell.c cell.font
+cell_bytes_of cell = if is_blank cell then codes " " else marked_bytes cell.c cell.font
 
 -- a margin in blanks, the cells and a line feed; where there is no cell, the line feed alone
 abbrev pub printed : ℕ → List Cell → List ℕ
-printed margin [] = 10 ∷ []
-printed margin (cell ∷ cells) = replicate margin 32 ++ (flat_map cell_bytes_of (cell ∷ cells) ++ 10 ∷ [])
+printed margin [] = codes "\n"
+printed margin (cell ∷ cells) = replicate margin (ascii " ") ++ (flat_map cell_bytes_of (cell ∷ cells) ++ codes "\n")
 
 abbrev pub row_bytes : LaidRow → List ℕ
 row_bytes row = printed row.margin (trimmed row.cells)
@@ -38,7 +43,8 @@ detail_bytes (byte ∷ bytes) = codes ": " ++ byte ∷ bytes
 -- mandoc: FILE:LINE:COLUMN: LEVEL: TEXT: DETAIL
 abbrev pub parts_bytes : List ℕ → List ℕ → List ℕ → List ℕ → List ℕ → List ℕ → List ℕ
 parts_bytes file line column level text detail =
-    codes "mandoc: " ++ (file ++ (58 ∷ (line ++ (58 ∷ (column ++ (58 ∷ 32 ∷ (level ++ (58 ∷ 32 ∷ (text ++ (detail_bytes detail ++ 10 ∷ []))))))))))
+    codes "mandoc: " ++ (file ++ (ascii ":" ∷ (line ++ (ascii ":" ∷ (column ++ (ascii ":" ∷ ascii " " ∷ (level ++ (ascii ":" ∷ ascii " " ∷
+    (text ++ (detail_bytes detail ++ codes "\n"))))))))))
 
 abbrev pub message_bytes : List ℕ → Message → List ℕ
 message_bytes file m = parts_bytes file (decimal m.line) (decimal m.column) (level_name (level_of m.kind)) (text_of m.kind) m.detail

@@ -1,6 +1,7 @@
 -- The header and the footer of a page: their fields, and what the text of a field prints. Source: man(7), `TH`; mdoc(7), `Dd`, `Dt`, `Os`.
 use Rattle.std.specs.List.{sum_by, starts_with, ends_with}
 use Rattle.std.specs.Prelude.{ℕ, List, [], if◌then◌else◌, flat_map, length, replicate, codes, ◌+◌, ◌∷◌, map, ◌++◌, drop, ◌==◌, ◌-◌, take, nat_eq, true, false, nat_lt, ◌/◌, max, zero, suc, ◌&&◌, not, Bool}
+use Rattle.page_core_base.specs.Bytes.{ascii}
 use Rattle.page_core_base.specs.Limits.{FIELD, CELLS}
 use Rattle.page_core_base.specs.Messages.{text_front}
 use Rattle.page_core_base.specs.Rows.{Item, shown}
@@ -70,7 +71,7 @@ or_else text other = if length text == 0 then other else text
 abbrev pub words_text : ℕ → List (Argument (List ℕ)) → List ℕ
 words_text room [] = []
 words_text room (argument ∷ others) =
-    take room (32 ∷ []) ++ (said (room - 1) argument ++ words_text (room - 1 - said_len argument) others)
+    take room (codes " ") ++ (said (room - 1) argument ++ words_text (room - 1 - said_len argument) others)
 
 -- arguments joined by one blank: at most FIELD bytes
 abbrev pub joined : List (Argument (List ℕ)) → List ℕ
@@ -100,19 +101,19 @@ in_brackets room argument =
 
 -- ---- the volume
 
--- the volume of a section, by its first byte: the digits from 1 (49) on
+-- the volume of a section, by its first byte: the digits from 1 on
 abbrev pub volume_of : List ℕ → List ℕ
 volume_of [] = []
 volume_of (byte ∷ bytes) =
-    if byte == 49 then codes "General Commands Manual"
-    else if byte == 50 then codes "System Calls Manual"
-    else if byte == 51 then codes "Library Functions Manual"
-    else if byte == 52 then codes "Device Drivers Manual"
-    else if byte == 53 then codes "File Formats Manual"
-    else if byte == 54 then codes "Games Manual"
-    else if byte == 55 then codes "Miscellaneous Information Manual"
-    else if byte == 56 then codes "System Manager's Manual"
-    else if byte == 57 then codes "Kernel Developer's Manual"
+    if byte == ascii "1" then codes "General Commands Manual"
+    else if byte == ascii "2" then codes "System Calls Manual"
+    else if byte == ascii "3" then codes "Library Functions Manual"
+    else if byte == ascii "4" then codes "Device Drivers Manual"
+    else if byte == ascii "5" then codes "File Formats Manual"
+    else if byte == ascii "6" then codes "Games Manual"
+    else if byte == ascii "7" then codes "Miscellaneous Information Manual"
+    else if byte == ascii "8" then codes "System Manager's Manual"
+    else if byte == ascii "9" then codes "Kernel Developer's Manual"
     else []
 
 -- a text, and the next argument in brackets after it, unless it is empty: one field
@@ -184,7 +185,7 @@ abbrev pub part_items : Measure → Place → List TextToken → List Item
 part_items m place part = tokens_items m.output place roman_fonts part
 
 abbrev pub blanks : Place → ℕ → List Item
-blanks place count = in_font R place (replicate count 32)
+blanks place count = in_font R place (replicate count (ascii " "))
 
 -- the characters of a row: its parts, and blanks between them up to where the second and the third begin
 unfoldable pub row_characters : Measure → Place → (first second third : List TextToken) → List Item

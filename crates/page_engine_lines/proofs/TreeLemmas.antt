@@ -2,13 +2,13 @@
 use Rattle.std.proofs.Common.{◌≡◌, ℕ, ◌+◌, nat_lt, Bool, true, false, ◌&&◌, List, [], ◌∷◌, ◌++◌, length, map, Option, None, Some, ◌⊎◌, inl, inr, refl, sym, ap, ◌∙◌, append_assoc, append-nil, if◌then◌else◌}
 use Rattle.std.proofs.lemmas.Bool.{cases_Bool}
 use Rattle.std.proofs.lemmas.List.{map-append}
+use Rattle.page_core_base.specs.Bytes.{is_white}
 use Rattle.page_core_base.specs.Texts.{TakenLine}
 use Rattle.page_core_base.specs.Messages.{Message, message_about}
 use Rattle.page_core_base.specs.Rows.{Item, noted}
 use Rattle.page_core_base.specs.declared.note_kinds.NoteKind.TheVariants.{TrailingBlank}
 use Rattle.page_roff_effects.specs.States.{Given, says, takes}
 use Rattle.page_roff_syntax.specs.Delimiters.{kept_len}
-use Rattle.page_roff_syntax.specs.LineForms.{is_white}
 use Rattle.page_roff_source.specs.Runs.{RoffEdge, SourceLine, end_notes, given, done}
 use Rattle.page_roff_source.specs.machine.Taking.{before_line, run_line, line_given, line_done}
 use Rattle.page_roff_source.specs.machine.LineByLine.{lines_given, lines_done}

@@ -1,11 +1,11 @@
 -- What roff gives of a page's lines, as acts of one block tree. Source: mandoc(1), "DIAGNOSTICS".
 use Rattle.std.specs.Option.{option_or}
 use Rattle.std.specs.Prelude.{◌+◌, List, [], ◌∷◌, ◌++◌, is_some, if◌then◌else◌, Option, None, ℕ, nat_lt, length, map}
+use Rattle.page_core_base.specs.Bytes.{is_white}
 use Rattle.page_core_base.specs.Messages.{Message, message_about}
 use Rattle.page_core_base.specs.Rows.{Item}
 use Rattle.page_core_base.specs.declared.note_kinds.NoteKind.TheVariants.{TrailingBlank}
 use Rattle.page_roff_syntax.specs.Delimiters.{kept_len}
-use Rattle.page_roff_syntax.specs.LineForms.{is_white}
 use Rattle.page_roff_effects.specs.States.{Given, says, takes}
 use Rattle.page_roff_source.specs.Runs.{given, SourceLine, done, RoffEdge, end_notes}
 use Rattle.page_sets.specs.Mdoc.{either_events}

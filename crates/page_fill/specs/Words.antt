@@ -1,5 +1,6 @@
 -- The words of pieces between two breaks, and what is held between two pieces. Source: roff(7), "Filling and adjusting".
 use Rattle.std.specs.Prelude.{false, Bool, true, None, Some, ℕ, List, [], ◌∷◌, if◌then◌else◌, map, ◌++◌, flat_map, not, ◌&&◌, ◌==◌, length, ◌||◌, replicate}
+use Rattle.page_core_base.specs.Bytes.{ascii}
 use Rattle.page_core_base.specs.Messages.{Message, message_about}
 use Rattle.page_core_base.specs.Rows.{Item, Laid, seq}
 use Rattle.page_core_base.specs.Rows as items
@@ -76,7 +77,7 @@ text_content output cs font place = flat_map (λ c. printed_content (char_printe
 
 -- a tab is a blank of its word, which is reported once a word
 abbrev pub tab_content : (is_reported : Bool) → Font → Place → List CellOrNote
-tab_content is_reported font place = map noted (tab_notes (not is_reported) place) ++ shown (cell_of font 32) place ∷ []
+tab_content is_reported font place = map noted (tab_notes (not is_reported) place) ++ shown (cell_of font (ascii " ")) place ∷ []
 
 -- ---- what waits
 

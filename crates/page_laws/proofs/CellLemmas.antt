@@ -3,7 +3,8 @@ use Rattle.std.proofs.Common.{◌≡◌, ℕ, zero, suc, ◌<◌, ◌≤◌, ◌
 use Rattle.std.specs.List.{prefix_len}
 use Rattle.std.proofs.lemmas.Bool.{cases_Bool}
 use Rattle.std.proofs.lemmas.Bool.Decides.{nat_tests}
-use Rattle.page_scopes_phrases.specs.LineWords.{after_tab, cell, cells, cells_within, first_part, has_tab, other_cells, span, without_blanks}
+use Rattle.page_roff_syntax.specs.Arguments.{after_blanks}
+use Rattle.page_scopes_phrases.specs.LineWords.{after_tab, cell, cells, cells_within, first_part, has_tab, other_cells, span}
 use Rattle.page_scopes_phrases.specs.Phrases.{EventOutcome, followed_by}
 use Rattle.page_scopes_phrases.specs.declared.formatting.Formatting.{Formatting}
 use Rattle.page_scopes_phrases.specs.declared.phrases.Phrase.{Phrase}
@@ -16,7 +17,7 @@ after_tab-less (b ∷ bs) some = elim (cases_Bool (b == 9)) [
   | inr e ↦ rw e (omega (arith, length-drop 1 bs))
 ]
 
-blanks-less : (text : List ℕ) → length (without_blanks text) ≤ length text
+blanks-less : (text : List ℕ) → length (after_blanks text) ≤ length text
 blanks-less text = omega (arith, length-drop (prefix_len (λ byte. byte == 32) text) text)
 
 other-less : (p : Phrase (List ℕ)) → has_tab p ≡ true → length (other_cells (span p) p).text < length p.text

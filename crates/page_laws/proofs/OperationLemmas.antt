@@ -2,10 +2,10 @@
 use Rattle.std.proofs.Common.{◌≡◌, ℕ, zero, suc, ◌+◌, ◌<◌, ◌≤◌, ◌==◌, Bool, true, false, List, [], ◌∷◌, length, drop, fold, Option, None, Some, option_map, IfSome, MatchOption, ℤ, inl, inr, refl, ◌∙◌, arith, length-drop}
 use Rattle.std.specs.List.{prefix_len}
 use Rattle.std.proofs.lemmas.Bool.{cases_Bool}
-use Rattle.page_core_escapes.specs.Lengths.{is_among, is_digit, plus, minus, parenthesis, closing_parenthesis}
 use Rattle.page_core_numbers.specs.declared.scales.Scale.{Scale}
-use Rattle.page_core_numbers.specs.Expressions.{number_at, digits_of, after_digits, fraction_of, after_fraction, after_scale, scale_at, point, operator_at, operator_named, operator_len, begins_equal, Read, number, after_close, in_parentheses, operand_inside, operand_by, first, after_operation, next_operator, operations_at, expression_by, expression_within}
+use Rattle.page_core_numbers.specs.Expressions.{number_at, digits_of, after_digits, fraction_of, after_fraction, after_scale, scale_at, operator_at, operator_named, operator_len, begins_equal, Read, number, after_close, in_parentheses, operand_inside, operand_by, first, after_operation, next_operator, operations_at, expression_by, expression_within}
 use Rattle.std.specs.Prelude.{is_some, codes, ◌&&◌}
+use Rattle.page_core_base.specs.Bytes.{is_among, is_digit, ascii}
 use Rattle.page_laws.specs.Operations.{operand_of, done}
 
 -- what is left is no longer than the text that was read
@@ -19,7 +19,7 @@ after-digits-less text = omega (arith, length-drop (prefix_len is_digit text) te
 
 after-fraction-less : (text : List ℕ) → length (after_fraction text) ≤ length text
 after-fraction-less [] = omega arith
-after-fraction-less (b ∷ bs) = elim (cases_Bool (b == point)) [
+after-fraction-less (b ∷ bs) = elim (cases_Bool (b == ascii ".")) [
   | inl e ↦ rw e (omega (arith, after-digits-less bs))
   | inr e ↦ rw e (omega arith)
 ]
@@ -41,7 +41,7 @@ number-less scale text = elim (cases_Bool (length (digits_of text) + length (fra
 
 after-close-less : (text : List ℕ) → length (after_close text) ≤ length text
 after-close-less [] = omega arith
-after-close-less (b ∷ bs) = elim (cases_Bool (b == closing_parenthesis)) [
+after-close-less (b ∷ bs) = elim (cases_Bool (b == ascii ")")) [
   | inl e ↦ rw e (omega arith)
   | inr e ↦ rw e (omega arith)
 ]
@@ -65,11 +65,11 @@ inside-less (Some inside) h text after less = omega (arith, parentheses-less (in
 operand-less : (inside : Option (List ℕ → Read ℤ)) → Fits inside → (scale : Scale) → Shrinks (operand_by inside scale)
 unfolding operand_by
 operand-less inside h scale [] = omega arith
-operand-less inside h scale (b ∷ bs) = elim (cases_Bool (b == minus)) [
+operand-less inside h scale (b ∷ bs) = elim (cases_Bool (b == ascii "-")) [
   | inl e ↦ rw e (omega (arith, operand-less inside h scale bs))
-  | inr m ↦ elim (cases_Bool (b == plus)) [
+  | inr m ↦ elim (cases_Bool (b == ascii "+")) [
     | inl e ↦ rw (m, e) (omega (arith, operand-less inside h scale bs))
-    | inr p ↦ elim (cases_Bool (b == parenthesis)) [
+    | inr p ↦ elim (cases_Bool (b == ascii "(")) [
       | inl e ↦ rw (m, p, e) (inside-less inside h (b ∷ bs) bs (omega arith))
       | inr o ↦ rw (m, p, o) (number-less scale (b ∷ bs))
     ]

@@ -3,8 +3,9 @@ use Rattle.std.proofs.Common.{◌≡◌, ℕ, zero, suc, ◌+◌, ◌-◌, ◌�
 use Rattle.std.proofs.lemmas.Bool.{cases_Bool}
 use Rattle.std.proofs.lemmas.Bool.Decides.{nat_tests}
 use Rattle.std.proofs.lemmas.List.{drop-drop}
+use Rattle.page_core_base.specs.Bytes.{begins_quote}
 use Rattle.page_core_base.specs.Texts.{TakenLine}
-use Rattle.page_roff_syntax.specs.Arguments.{is_blank, begins_quoted, argument_len, quoted_len, first_argument, first_arguments, quoted_argument, bare_argument, arguments}
+use Rattle.page_roff_syntax.specs.Arguments.{is_blank, argument_len, quoted_len, first_argument, first_arguments, quoted_argument, bare_argument, arguments}
 use Rattle.page_sets_lines.specs.declared.events.EventKind.{EventKind}
 use Rattle.page_sets_lines.specs.Lines.{before_name, name_end, name_place, is_nameless, arguments_after, event_at, line_start}
 use Rattle.page_sets_lines.specs.laws.Sets.{IsArgument, prints_text}
@@ -22,14 +23,14 @@ long_enough true text =
       | inr t ↦ rw t (omega arith)
     ]
 
-quote_last : (text : List ℕ) (start : ℕ) → start + 1 ≡ length text → begins_quoted (drop start text) ≡ true → ends_in_quote text ≡ true
+quote_last : (text : List ℕ) (start : ℕ) → start + 1 ≡ length text → begins_quote (drop start text) ≡ true → ends_in_quote text ≡ true
 quote_last [] start l h = absurd (omega (arith, l))
 quote_last (byte ∷ []) zero l h = h
 quote_last (byte ∷ []) (suc start) l h = absurd (omega (arith, l))
 quote_last (byte ∷ next ∷ bytes) zero l h = absurd (omega (arith, l))
 quote_last (byte ∷ next ∷ bytes) (suc start) l h = quote_last (next ∷ bytes) start (omega (arith, l)) h
 
-after_quote : (text : List ℕ) (start : ℕ) → start < length text → begins_quoted (drop start text) ≡ true → start + 1 + 1 ≤ last_column true text
+after_quote : (text : List ℕ) (start : ℕ) → start < length text → begins_quote (drop start text) ≡ true → start + 1 + 1 ≤ last_column true text
 after_quote text start w h =
     elim (cases_Bool (ends_in_quote text)) [
       | inl t ↦ rw t (omega (arith, w))
@@ -59,12 +60,12 @@ quoted_byte line start w some =
     let inner = drop 1 (drop start line.text) in
     at_byte line (start + 1 + 1) (omega arith) (omega (arith, some, length-take (quoted_len inner) inner, length-drop 1 (drop start line.text), length-drop start line.text))
 
-quoted_text : (line : TakenLine) (start : ℕ) (kind : EventKind (List ℕ)) → start < length line.text → begins_quoted (drop start line.text) ≡ true → prints_text kind ≡ true
+quoted_text : (line : TakenLine) (start : ℕ) (kind : EventKind (List ℕ)) → start < length line.text → begins_quote (drop start line.text) ≡ true → prints_text kind ≡ true
     → IsInLine line (event_at (record { line = line.number; column = start + 1 + 1 }) kind)
 quoted_text line start kind w h prints =
     in_line line (start + 1 + 1) kind (omega arith) (rw prints (after_quote line.text start w h))
 
-quoted_sits : (line : TakenLine) (start : ℕ) → start < length line.text → begins_quoted (drop start line.text) ≡ true
+quoted_sits : (line : TakenLine) (start : ℕ) → start < length line.text → begins_quote (drop start line.text) ≡ true
     → IsArgument line.text (quoted_argument (start + 1) (drop 1 (drop start line.text)))
     → Sits line.text (IsInLine line) line.number (quoted_argument (start + 1) (drop 1 (drop start line.text)))
 quoted_sits line start w h slice =
@@ -79,7 +80,7 @@ quoted_sits line start w h slice =
 first_sits : (line : TakenLine) (start : ℕ) → start < length line.text → Sits line.text (IsInLine line) line.number (first_argument (start + 1) (drop start line.text))
 first_sits line start w =
     let slice = first_slice line.text start w in
-    elim (cases_Bool (begins_quoted (drop start line.text))) [
+    elim (cases_Bool (begins_quote (drop start line.text))) [
       | inl t ↦ rw t (quoted_sits line start w t (rw t at slice))
       | inr t ↦ rw t (bare_sits line start (drop start line.text) w (rw t at slice))
     ]

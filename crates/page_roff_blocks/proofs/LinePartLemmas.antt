@@ -4,12 +4,14 @@ use Rattle.std.proofs.lemmas.Bool.{cases_Bool}
 use Rattle.std.proofs.lemmas.Bool.Decides.{nat_tests}
 use Rattle.std.proofs.lemmas.List.{length-take-le, drop-drop}
 use Rattle.std.proofs.lemmas.List.Sums.{prefix_len-le-length}
-use Rattle.page_roff_syntax.specs.LineForms.{form_of, name_start, name_len, is_control, is_name, is_white, has_word, without_comment, control_line, uncommented_form}
+use Rattle.page_core_base.specs.Bytes.{is_white}
+use Rattle.page_roff_syntax.specs.Arguments.{blank_len, after_blanks}
+use Rattle.page_roff_syntax.specs.LineForms.{form_of, name_start, name_len, is_control, is_name, has_word, without_comment, control_line, uncommented_form}
 use Rattle.page_roff_syntax.specs.laws.Views.{name_of, begins_control}
 use Rattle.page_roff_syntax.specs.declared.line_forms.LineForm.{LineForm}
 use Rattle.page_roff_syntax.specs.declared.line_forms.LineForm.TheVariants.{Control}
 use Rattle.page_roff_syntax.proofs.ControlLemmas.{uncommented_control}
-use Rattle.page_roff_heads.specs.Conditions.{condition_len, blank_len, after_blanks, begins_pair, remainder_of}
+use Rattle.page_roff_heads.specs.Conditions.{condition_len, begins_pair, remainder_of}
 use Rattle.page_roff_heads.specs.Heads.{conditional_of, guarded_of, end_place, block_end_of, loop_of}
 use Rattle.page_roff_heads.specs.declared.loops.LoopRead.{LoopRead}
 use Rattle.page_roff_heads.specs.declared.texts.Placed.{Placed}

@@ -2,6 +2,7 @@
 use Rattle.std.specs.Char.{digit_char}
 use Rattle.std.specs.Int.{is_in_range}
 use Rattle.std.specs.Prelude.{ℕ, Bool, ◌==◌, ◌||◌, if◌then◌else◌, ◌&&◌, List, slice_index, ◌+◌, ◌/◌, ◌%◌, [], ◌∷◌, nat_lt, take, ◌-◌, zero, suc, ◌++◌, nat_le, length, codes}
+use Rattle.page_core_base.specs.Bytes.{ascii}
 use Rattle.page_core_base.specs.Limits.{LINE, name_of}
 use Rattle.page_core_base.specs.Messages.{Message}
 use Rattle.page_core_base.specs.declared.limits.Limit.TheVariants.{Line as LineLimit}
@@ -16,10 +17,6 @@ unfoldable pub line_limit : ℕ
 line_limit = LINE
 
 -- ---- The characters of a line's bytes. Source: mandoc(1), -K.
-
--- the tab
-abbrev pub tab : ℕ
-tab = 9
 
 -- the byte may be a later one of a UTF-8 sequence
 abbrev pub is_later : ℕ → Bool
@@ -52,7 +49,7 @@ pub data Character : Type 0 where
 
 -- the byte is a character of a line by itself: a printable one of ASCII, or a tab
 abbrev pub is_printable : ℕ → Bool
-is_printable b = is_in_range 32 126 b || b == tab
+is_printable b = is_in_range (ascii " ") (ascii "~") b || b == ascii "\t"
 
 -- U+00A0 to U+00FF in UTF-8
 abbrev pub latin1_bytes : ℕ → List ℕ

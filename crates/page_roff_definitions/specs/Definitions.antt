@@ -1,6 +1,6 @@
 -- What the requests for definitions do, and the call of a macro. Source: roff(7), `as`, `de`, `ds`, `nr`, `rm`, `rn`.
-use Rattle.std.specs.List.{prefix_len}
-use Rattle.std.specs.Prelude.{ℕ, ◌-◌, List, [], ◌∷◌, flat_map, ◌+◌, length, drop, ◌==◌, if◌then◌else◌, ◌++◌, Option, Some, None, unwrap_or, Bool, false, ◌||◌, ℤ, pos, ◌+ℤ◌, true}
+use Rattle.std.specs.Prelude.{ℕ, ◌-◌, List, [], ◌∷◌, flat_map, ◌+◌, length, drop, ◌==◌, if◌then◌else◌, ◌++◌, Option, Some, None, unwrap_or, Bool, false, ℤ, pos, ◌+ℤ◌, true, codes}
+use Rattle.page_core_base.specs.Bytes.{ascii, begins_sign}
 use Rattle.page_core_base.specs.Limits.{name_of}
 use Rattle.page_core_base.specs.Messages.{Message, message_about}
 use Rattle.page_core_base.specs.declared.limits.Limit.{Limit}
@@ -8,7 +8,7 @@ use Rattle.page_core_base.specs.declared.note_kinds.NoteKind.TheVariants.{Unterm
 use Rattle.page_core_base.specs.declared.note_kinds.NoteKind.TheVariants as kinds
 use Rattle.page_core_base.specs.declared.places.Place.{Place}
 use Rattle.page_core_numbers.specs.Expressions.{in_range}
-use Rattle.page_roff_syntax.specs.Arguments.{is_blank, argument_value, argument_name, arguments}
+use Rattle.page_roff_syntax.specs.Arguments.{after_blanks, argument_value, argument_name, arguments}
 use Rattle.page_roff_syntax.specs.declared.quotes.Argument.{Argument}
 use Rattle.page_roff_syntax.specs.declared.quotes.Quoting.{Quoting}
 use Rattle.page_roff_syntax.specs.declared.quotes.Quoting.TheVariants.{Closed, Unclosed}
@@ -45,13 +45,10 @@ closing_len _ = 0
 abbrev pub end_of : ℕ → Argument (List ℕ) → ℕ
 end_of column argument = argument.column - column + length argument.text + closing_len argument.quoting
 
-abbrev pub after_blanks : List ℕ → List ℕ
-after_blanks text = drop (prefix_len is_blank text) text
-
--- a leading quote (34) is dropped
+-- a leading quote is dropped
 abbrev pub without_quote : List ℕ → List ℕ
 without_quote [] = []
-without_quote (byte ∷ bytes) = if byte == 34 then bytes else byte ∷ bytes
+without_quote (byte ∷ bytes) = if byte == ascii "\"" then bytes else byte ∷ bytes
 
 -- the value of a string is what follows its name and blanks
 abbrev pub value_after : ℕ → List ℕ → Argument (List ℕ) → List ℕ
@@ -59,15 +56,15 @@ value_after column rest name = without_quote (after_blanks (drop (end_of column 
 
 -- ---- The body that a macro runs, line by line, and the arguments of its call, packed. Source: roff(7), "MACRO SYNTAX" and "de".
 
--- a body with one line more, which ends in a line feed (10)
+-- a body with one line more, which ends in a line feed
 abbrev pub with_line : List ℕ → List ℕ → List ℕ
-with_line body line = body ++ (line ++ (10 ∷ []))
+with_line body line = body ++ (line ++ codes "\n")
 
 -- ---- arguments
 
--- each argument with a line feed (10) after it, which no line holds
+-- each argument with a line feed after it, which no line holds
 abbrev pub packed : List (Argument (List ℕ)) → List ℕ
-packed arguments = flat_map (λ argument. argument_value argument ++ (10 ∷ [])) arguments
+packed arguments = flat_map (λ argument. argument_value argument ++ codes "\n") arguments
 
 -- ---- What the requests for definitions do. Source: roff(7), "ds", "as", "nr", "rm", "rn", "rr".
 
@@ -110,20 +107,15 @@ abbrev pub removes_registers : List (Argument (List ℕ)) → Definitions → De
 removes_registers [] old = old
 removes_registers (name ∷ names) old = removes_registers names (without_register (argument_name name) old)
 
--- a full stop (46)
+-- a full stop
 abbrev pub is_read_only : List ℕ → Bool
 is_read_only [] = false
-is_read_only (byte ∷ bytes) = byte == 46
-
--- a plus (43) or minus (45) sign
-abbrev pub is_change : List ℕ → Bool
-is_change [] = false
-is_change (byte ∷ bytes) = byte == 43 || byte == 45
+is_read_only (byte ∷ bytes) = byte == ascii "."
 
 -- a value with a leading sign changes by it; a register that there is not has 0
 abbrev pub next_number : List ℕ → List ℕ → Definitions → ℤ
 next_number name value old =
-    if is_change value then in_range (unwrap_or (number_of name old) (pos 0) +ℤ value_of value) else value_of value
+    if begins_sign value then in_range (unwrap_or (number_of name old) (pos 0) +ℤ value_of value) else value_of value
 
 abbrev pub sets_register : List ℕ → ℤ → Place → Definitions → DefinitionOutcome
 sets_register name number place old = settles name [] (with_register name number old) place old

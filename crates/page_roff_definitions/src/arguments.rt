@@ -3,9 +3,9 @@
 ghost use Rattle.std.specs.Prelude.{◌≡◌, ◌≤◌, ◌+◌, length};
 ghost use Rattle.page_core_base.specs.laws.Views.{Came};
 ghost use Rattle.page_roff_syntax.specs.laws.Views.{argument_view};
-ghost use Rattle.page_roff_syntax.specs.Arguments.{arguments};
+ghost use Rattle.page_roff_syntax.specs.Arguments.{arguments, after_blanks};
 ghost use Rattle.page_roff_definitions.specs.Definitions as ends;
-ghost use Rattle.page_roff_definitions.specs.Definitions.{closing_notes, closings_notes, after_blanks, without_quote, value_after};
+ghost use Rattle.page_roff_definitions.specs.Definitions.{closing_notes, closings_notes, without_quote, value_after};
 
 use memchr::memchr;
 use page_core_base::{LINE, Note, NoteKind, NoteOut, Place};

@@ -1,6 +1,7 @@
 //! The requests that define strings and number registers, and take definitions away (roff(7)).
 
 ghost use Rattle.std.specs.Prelude.{◌≡◌, ◌≤◌, ◌+◌, length, [], ◌∷◌, ◌++◌, unwrap_or};
+ghost use Rattle.page_core_base.specs.Bytes.{begins_sign};
 ghost use Rattle.page_core_base.specs.declared.limits.TheConstants.{LINE};
 ghost use Rattle.page_roff_syntax.specs.Arguments.{arguments};
 ghost use Rattle.page_core_base.specs.Limits.{name_of};
@@ -93,7 +94,7 @@ fn set_register<O: NoteOut>(name: &[u8], number: i32, place: Place, names: &mut 
 
 // Whether a value changes a register.
 fn is_change(value: &[u8]) -> bool
-    ensures { result ≡ defining.is_change value.now }
+    ensures { result ≡ begins_sign value.now }
 {
     matches!(value, [b'+' | b'-', ..])
 }

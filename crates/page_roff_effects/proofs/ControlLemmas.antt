@@ -2,7 +2,8 @@
 use Rattle.std.proofs.Common.{◌≡◌, ℕ, suc, ◌+◌, ◌-◌, ◌≤◌, ◌==◌, Bool, true, false, List, [], ◌∷◌, length, take, drop, refl, sym, ap, arith, length-drop, if◌then◌else◌}
 use Rattle.std.proofs.lemmas.List.{length-take}
 use Rattle.std.proofs.lemmas.List.Sums.{prefix_len-le-length}
-use Rattle.page_roff_syntax.specs.LineForms.{is_white, is_name, is_control, has_word, begins_comment, without_comment, name_start, name_len, control_line, uncommented_form, form_of}
+use Rattle.page_core_base.specs.Bytes.{is_white}
+use Rattle.page_roff_syntax.specs.LineForms.{is_name, is_control, has_word, begins_comment, without_comment, name_start, name_len, control_line, uncommented_form, form_of}
 use Rattle.page_roff_syntax.specs.declared.line_forms.LineForm.TheVariants.{BlankLine, Text, Control}
 
 -- a front of a text

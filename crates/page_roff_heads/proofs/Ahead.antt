@@ -4,14 +4,15 @@ use Rattle.std.specs.List.{prefix_len, starts_with}
 use Rattle.std.proofs.lemmas.Bool.{cases_Bool}
 use Rattle.std.proofs.lemmas.Bool.Decides.{nat_tests}
 use Rattle.std.proofs.lemmas.List.{drop-append-le, length-append, length-take-le, take_all, take-append-le}
-use Rattle.page_roff_syntax.specs.LineForms.{begins_comment, is_name, is_white, without_comment}
-use Rattle.page_roff_syntax.specs.Arguments.{is_blank}
+use Rattle.page_core_base.specs.Bytes.{is_white}
+use Rattle.page_roff_syntax.specs.LineForms.{begins_comment, is_name, without_comment}
+use Rattle.page_roff_syntax.specs.Arguments.{is_blank, blank_len, after_blanks}
 use Rattle.page_roff_heads.specs.declared.conditions.ConditionKind.{ConditionKind}
 use Rattle.page_roff_heads.specs.declared.conditions.ConditionKind.TheVariants.{Defined, Register, Expression, Delimiter}
 use Rattle.page_roff_heads.specs.declared.conditions.Test.{Test}
 use Rattle.page_roff_heads.specs.declared.conditions.Test.TheVariants as tests
 use Rattle.page_roff_heads.specs.declared.conditions.TestRead.{TestRead}
-use Rattle.page_roff_heads.specs.Conditions.{both_len, condition_len, condition_of, has_both, is_odd, kind_of, longer, name_after, name_len, named, read_kind, read_test, reads, second_of, text_before, texts_after, texts_at, turn_len, argument_len, expression_len, expression_rest, after_blanks, blank_len, placed}
+use Rattle.page_roff_heads.specs.Conditions.{both_len, condition_len, condition_of, has_both, is_odd, kind_of, longer, name_after, name_len, named, read_kind, read_test, reads, second_of, text_before, texts_after, texts_at, turn_len, argument_len, expression_len, expression_rest, placed}
 use Rattle.page_roff_syntax.specs.Delimiters.{character_len, delimiter_of, place_of, quoted_len, width_len}
 use Rattle.page_roff_heads.proofs.Reading.{texts_together}
 use Rattle.page_roff_syntax.proofs.DelimiterLemmas.{quoted_none, quoted_some}

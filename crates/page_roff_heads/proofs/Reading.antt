@@ -6,9 +6,10 @@ use Rattle.std.proofs.lemmas.List.Sums.{prefix_len_stops, prefix_len-le-length}
 use Rattle.std.proofs.lemmas.Bool.{cases_Bool}
 use Rattle.std.specs.List.{prefix_len}
 use Rattle.std.specs.Prelude.{◌&&◌, ◌||◌}
+use Rattle.page_core_base.specs.Bytes.{is_white}
 use Rattle.page_roff_syntax.specs.machine.Pairs.{LacksPair}
 use Rattle.page_roff_syntax.proofs.PairLemmas.{lacks_later}
-use Rattle.page_roff_syntax.specs.LineForms.{is_white, begins_comment}
+use Rattle.page_roff_syntax.specs.LineForms.{begins_comment}
 use Rattle.page_roff_syntax.specs.laws.Views.{is_plain}
 use Rattle.page_roff_syntax.specs.Delimiters.{character_len, width_len}
 use Rattle.page_roff_heads.specs.Conditions.{argument_len, expression_rest, expression_len, longer, texts_after, texts_at}

@@ -1,10 +1,11 @@
 -- Where the rest of a control line begins: helpers of proofs.
-use Rattle.std.proofs.Common.{◌≡◌, ℕ, ◌+◌, ◌-◌, ◌≤◌, List, [], ◌∷◌, length, drop, arith, inl, inr, length-drop}
+use Rattle.std.proofs.Common.{◌≡◌, ℕ, ◌+◌, ◌≤◌, List, [], ◌∷◌, length, drop, arith, inl, inr, length-drop}
 use Rattle.std.proofs.lemmas.Bool.{cases_Bool}
 use Rattle.std.proofs.lemmas.Bool.Decides.{nat_tests}
 use Rattle.std.proofs.lemmas.List.Sums.{prefix_len-le-length}
+use Rattle.page_core_base.specs.Bytes.{is_white}
 use Rattle.page_roff_syntax.specs.declared.line_forms.LineForm.TheVariants.{Control}
-use Rattle.page_roff_syntax.specs.LineForms.{has_word, without_comment, is_control, is_name, is_white, name_start, name_len, control_line, uncommented_form, form_of}
+use Rattle.page_roff_syntax.specs.LineForms.{has_word, without_comment, is_control, is_name, name_start, name_len, control_line, uncommented_form, form_of}
 
 uncommented_within : (line : List ℕ) → length (without_comment line) ≤ length line
 uncommented_within [] = omega arith

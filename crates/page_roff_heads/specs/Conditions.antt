@@ -1,9 +1,11 @@
 -- The condition of a conditional, as it is written. Source: roff(7), "Conditionals".
-use Rattle.std.specs.List.{prefix_len, list_any}
-use Rattle.std.specs.Prelude.{ℕ, List, drop, Bool, false, ◌==◌, ◌&&◌, [], ◌∷◌, true, not, if◌then◌else◌, Option, Some, None, ◌+◌, zero, suc, nat_le, ◌||◌, codes, take, length, nat_lt, ◌%◌}
-use Rattle.page_roff_syntax.specs.Arguments.{is_blank}
+use Rattle.std.specs.List.{prefix_len}
+use Rattle.std.specs.Prelude.{ℕ, List, drop, Bool, false, ◌==◌, ◌&&◌, [], ◌∷◌, true, not, if◌then◌else◌, Option, Some, None, ◌+◌, zero, suc, ◌||◌, codes, take, length, nat_lt, ◌%◌}
+use Rattle.std.specs.Int.{is_in_range}
+use Rattle.page_core_base.specs.Bytes.{is_white, ascii, is_among, is_digit}
+use Rattle.page_roff_syntax.specs.Arguments.{blank_len, after_blanks}
 use Rattle.page_roff_syntax.specs.Delimiters.{width_len, place_of, character_len, delimiter_of}
-use Rattle.page_roff_syntax.specs.LineForms.{begins_comment, is_white, is_name}
+use Rattle.page_roff_syntax.specs.LineForms.{begins_comment, is_name}
 use Rattle.page_roff_heads.specs.declared.conditions.Condition.{Condition}
 use Rattle.page_roff_heads.specs.declared.conditions.ConditionKind.{ConditionKind}
 use Rattle.page_roff_heads.specs.declared.conditions.ConditionKind.TheVariants.{True, False, Defined, Register, Expression, Letter, Delimiter}
@@ -17,23 +19,16 @@ use Rattle.page_roff_heads.specs.declared.texts.Placed.{Placed}
 abbrev pub placed : ℕ → List ℕ → Placed (List ℕ)
 placed column text = record { text = text; column = column }
 
--- the blanks at a text's front, and what is after them
-abbrev pub blank_len : List ℕ → ℕ
-blank_len text = prefix_len is_blank text
-
-abbrev pub after_blanks : List ℕ → List ℕ
-after_blanks text = drop (blank_len text) text
-
--- a text begins with the pair of a backslash (92) and this byte
+-- a text begins with the pair of a backslash and this byte
 abbrev pub begins_pair : ℕ → List ℕ → Bool
-begins_pair key (byte ∷ next ∷ bytes) = byte == 92 && next == key
+begins_pair key (byte ∷ next ∷ bytes) = byte == ascii "\\" && next == key
 begins_pair key _ = false
 
 -- it is a line of its own: neither empty nor a comment
 abbrev pub is_some_line : List ℕ → Bool
 is_some_line [] = false
 is_some_line (byte ∷ []) = true
-is_some_line (byte ∷ next ∷ bytes) = not (byte == 92 && begins_comment next)
+is_some_line (byte ∷ next ∷ bytes) = not (byte == ascii "\\" && begins_comment next)
 
 -- A remainder loses its blanks. It is a line unless it is empty or a comment.
 abbrev pub remainder_at : ℕ → List ℕ → Option (Placed (List ℕ))
@@ -44,17 +39,17 @@ remainder_of column text = remainder_at (column + blank_len text) (after_blanks 
 
 -- ---- What ends an expression. Source: roff(7), "Conditional expressions" and "Escape sequences".
 
--- the argument of the escape \w (119), after its letter
+-- the argument of the escape \w, after its letter
 abbrev pub argument_len : ℕ → List ℕ → ℕ
-argument_len letter text = if letter == 119 then width_len text else 0
+argument_len letter text = if letter == ascii "w" then width_len text else 0
 
--- An expression goes up to a blank, a tab or \{ (123). This many bytes at its front belong to the argument of a \w.
+-- An expression goes up to a blank, a tab or \{. This many bytes at its front belong to the argument of a \w.
 abbrev pub expression_rest : ℕ → List ℕ → ℕ
 expression_rest zero [] = 0
 expression_rest zero (byte ∷ []) = if is_white byte then 0 else 1
 expression_rest zero (byte ∷ next ∷ bytes) =
     if is_white byte then 0
-    else if byte == 92 then (if next == 123 then 0 else 2 + expression_rest (argument_len next bytes) bytes)
+    else if byte == ascii "\\" then (if next == ascii "{" then 0 else 2 + expression_rest (argument_len next bytes) bytes)
     else 1 + expression_rest zero (next ∷ bytes)
 expression_rest (suc passed) [] = 0
 expression_rest (suc passed) (byte ∷ bytes) = 1 + expression_rest passed bytes
@@ -64,27 +59,21 @@ expression_len text = expression_rest zero text
 
 -- ---- The condition of a conditional, as it is written. Source: roff(7), "Conditional expressions".
 
-abbrev pub is_among : List ℕ → ℕ → Bool
-is_among bytes byte = list_any (λ one. byte == one) bytes
-
-abbrev pub is_between : ℕ → ℕ → ℕ → Bool
-is_between first last byte = nat_le first byte && nat_le byte last
-
 -- letters of ASCII
 abbrev pub is_letter : ℕ → Bool
-is_letter byte = is_between 65 90 byte || is_between 97 122 byte
+is_letter byte = is_in_range (ascii "A") (ascii "Z") byte || is_in_range (ascii "a") (ascii "z") byte
 
 -- a digit, a parenthesis, a backslash, a sign or a full stop
 abbrev pub begins_expression : ℕ → Bool
-begins_expression byte = is_between 48 57 byte || is_among (codes "(\\+-.") byte
+begins_expression byte = is_digit byte || is_among byte (codes "(\\+-.")
 
 -- what a test is, by its first byte
 unfoldable pub kind_of : ℕ → ConditionKind
 kind_of byte =
-    if is_among (codes "no") byte then True
-    else if is_among (codes "tev") byte then False
-    else if byte == 100 then Defined
-    else if byte == 114 then Register
+    if is_among byte (codes "no") then True
+    else if is_among byte (codes "tev") then False
+    else if byte == ascii "d" then Defined
+    else if byte == ascii "r" then Register
     else if begins_expression byte then Expression
     else if is_letter byte then Letter
     else Delimiter
@@ -153,9 +142,9 @@ unfoldable pub read_test : ℕ → List ℕ → TestRead (List ℕ)
 read_test column [] = reads tests.Missing 0
 read_test column (byte ∷ bytes) = read_kind (kind_of byte) column (byte ∷ bytes)
 
--- any number of ! (33) may precede the test, and each negates it
+-- any number of ! may precede the test, and each negates it
 abbrev pub turn_len : List ℕ → ℕ
-turn_len text = prefix_len (λ byte. byte == 33) text
+turn_len text = prefix_len (λ byte. byte == ascii "!") text
 
 abbrev pub is_odd : ℕ → Bool
 is_odd number = number % 2 == 1

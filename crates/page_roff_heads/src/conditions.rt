@@ -2,12 +2,12 @@
 
 ghost use Rattle.std.specs.Prelude.{◌≡◌, ◌≤◌, ◌<◌, ◌+◌, ◌^◌, length, IsTrue};
 ghost use Rattle.std.specs.List.{prefix_len};
+ghost use Rattle.page_roff_syntax.specs.Arguments.{blank_len};
 ghost use Rattle.page_roff_syntax.specs.LineForms.{is_name, without_comment};
 ghost use Rattle.page_roff_heads.specs.Conditions as written;
 ghost use Rattle.page_roff_heads.specs.laws.Views.{read_view, test_view, condition_view, FitsTest};
 ghost use Rattle.page_roff_heads.specs.declared.conditions.ConditionKind.TheVariants as kinds;
 ghost use Rattle.page_roff_heads.specs.declared.conditions.Test.TheVariants as tests;
-ghost use Rattle.page_roff_heads.specs.Conditions.{blank_len};
 
 use crate::expressions::expression_len;
 use crate::texts::Placed;

@@ -2,13 +2,13 @@
 use Rattle.std.proofs.Common.{◌≡◌, ℕ, ◌-◌, ◌≤◌, Bool, true, false, cond, List, [], ◌∷◌, ◌++◌, length, sym, ap, ◌∙◌, arith}
 use Rattle.std.specs.Prelude.{◌==◌}
 use Rattle.std.proofs.lemmas.List.{length-take}
+use Rattle.page_core_base.specs.Bytes.{ascii}
 use Rattle.page_core_base.specs.declared.page_settings.Encoding.{Encoding}
 use Rattle.page_roff_decoding.specs.Decoding.{line_limit}
 use Rattle.page_roff_decoding.specs.laws.Views.{line_limit_is}
 use Rattle.page_roff_lines.specs.declared.Mode.{Mode}
 use Rattle.page_roff_lines.specs.declared.Mode.TheVariants.{Plain, Backslash, Comment, Dropped}
 use Rattle.page_roff_lines.specs.laws.Views.{newline}
-use Rattle.page_roff_lines.specs.Lines.{hash}
 use Rattle.page_roff_lines.specs.machine.Held.{Held, extend, shorten}
 use Rattle.page_roff_lines.specs.machine.Open.{Open, restart, close, count_byte, put, put_plain, put_pair, put_in, without_return, newline_in, put_newline, put_byte, ends_mark, next_open}
 use Rattle.page_roff_lines.specs.laws.Cutting.{Point, first_point, point_at, next_point, point_after, IsAfter}
@@ -40,7 +40,7 @@ put_in-short Plain r o b h = extend-short o.text (b ∷ [])
 put_in-short Comment r o b h = extend-short o.text (b ∷ [])
 put_in-short Dropped r o b h = h
 put_in-short Backslash true o b h = extend-short o.text (b ∷ [])
-put_in-short Backslash false o b h = either-short (b == hash) _ _ (shorten-short o.text h) (extend-short o.text (b ∷ []))
+put_in-short Backslash false o b h = either-short (b == ascii "#") _ _ (shorten-short o.text h) (extend-short o.text (b ∷ []))
 
 newline_in-short : (m : Mode) (o : Open) → Short o → Short (newline_in m o)
 unfolding newline_in close

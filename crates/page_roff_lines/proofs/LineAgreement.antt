@@ -3,6 +3,7 @@ use Rattle.std.proofs.Common.{◌≡◌, ℕ, Bool, true, false, cond, List, [],
 use Rattle.std.specs.Prelude.{◌==◌, nat_lt, nat_eq, if◌then◌else◌}
 use lib.Pointwise.{pointwise}
 use Rattle.std.proofs.lemmas.Bool.Decides.{eqb_tells}
+use Rattle.page_core_base.specs.Bytes.{ascii}
 use Rattle.page_core_base.specs.declared.page_settings.Encoding.{Encoding}
 use Rattle.page_core_base.specs.declared.page_settings.Encoding.TheVariants.{Auto, Ascii, Latin1, Utf8}
 use Rattle.page_roff_decoding.specs.Decoding.{good, bad, is_printable, sequence_length, character, later_length, characters_after, characters, choice_of}
@@ -11,7 +12,7 @@ use Rattle.page_roff_lines.specs.declared.Mode.TheVariants.{Plain, Backslash, Co
 use Rattle.page_roff_lines.specs.declared.Mark.{Mark}
 use Rattle.page_roff_lines.specs.declared.Mark.TheVariants.{Unread, First, Second, Absent, Present}
 use Rattle.page_roff_lines.specs.laws.Views.{newline}
-use Rattle.page_roff_lines.specs.Lines.{hash, KeptLine, has_mark, Line, decode_line, or_else, choice_of_lines, lines}
+use Rattle.page_roff_lines.specs.Lines.{KeptLine, has_mark, Line, decode_line, or_else, choice_of_lines, lines}
 use Rattle.page_roff_lines.specs.machine.Open.{Open, first_open, restart, close, count_byte, put, put_plain, put_pair, put_in, put_byte, ends_mark, mark_after, is_marked, next_open, end_open, end_in, kept_of, if_whole, whole_lines, open_after, lines_from as raw_lines_from}
 use Rattle.page_roff_lines.specs.machine.Run.{is_settled}
 use Rattle.page_roff_lines.specs.laws.Cutting.{Point, first_point, encoding_after, point_at, next_point, end_point, line_at, lines_within, point_after, lines_from, IsAfter, IsFed}
@@ -80,7 +81,7 @@ put_in-whole Plain r o b = refl
 put_in-whole Comment r o b = refl
 put_in-whole Dropped r o b = refl
 put_in-whole Backslash true o b = refl
-put_in-whole Backslash false o b = either-whole (b == hash) _ _ o.whole refl refl
+put_in-whole Backslash false o b = either-whole (b == ascii "#") _ _ o.whole refl refl
 
 restart-by : (w : Bool) (o p : Open) → w ≡ o.whole → p.whole ≡ false → (cond w p o).whole ≡ false
 restart-by true o p h g = g

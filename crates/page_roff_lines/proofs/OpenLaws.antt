@@ -3,12 +3,12 @@ use Rattle.std.proofs.Common.{◌≡◌, ℕ, ◌+◌, ◌-◌, ◌<◌, ◌≤�
 use Rattle.std.specs.Prelude.{◌==◌}
 use Rattle.std.proofs.lemmas.List.{take_more}
 use Rattle.std.proofs.Math.Seq.{take-add}
+use Rattle.page_core_base.specs.Bytes.{ascii}
 use Rattle.page_roff_decoding.proofs.ScanLemmas.{rest_of}
 use Rattle.page_roff_lines.specs.declared.Mode.{Mode}
 use Rattle.page_roff_lines.specs.declared.Mode.TheVariants.{Plain, Backslash, Comment, Dropped}
 use Rattle.page_roff_lines.specs.declared.Mark.{Mark}
 use Rattle.page_roff_lines.specs.laws.Views.{newline}
-use Rattle.page_roff_lines.specs.Lines.{hash}
 use Rattle.page_roff_lines.specs.machine.Open.{Open, restart, close, count_byte, put, put_plain, put_pair, put_in, without_return, newline_in, put_newline, put_byte, mark_after, next_open, kept_of, if_whole, whole_lines, open_after}
 
 pub open_after-append : (o : Open) (xs ys : List ℕ) → open_after o (xs ++ ys) ≡ open_after (open_after o xs) ys
@@ -39,7 +39,7 @@ put_in-part Plain r o b = refl
 put_in-part Comment r o b = refl
 put_in-part Dropped r o b = refl
 put_in-part Backslash true o b = refl
-put_in-part Backslash false o b = either-part (b == hash) _ _ (part o) refl refl
+put_in-part Backslash false o b = either-part (b == ascii "#") _ _ (part o) refl refl
 
 newline_in-part : (m : Mode) (o : Open) → part (newline_in m o) ≡ part o
 unfolding newline_in close

@@ -1,12 +1,12 @@
 -- A run of bytes does to the open line what its bytes do one by one.
 use Rattle.std.proofs.Common.{zero, suc, add_assoc, ◌≡◌, ℕ, ◌+◌, ◌-◌, ◌<◌, Bool, true, false, List, [], ◌∷◌, ◌++◌, length, take, get_or, refl, ap, ◌∙◌, append_assoc, length-append, arith}
 use Rattle.std.specs.Prelude.{◌==◌, ◌||◌, slice_index}
+use Rattle.page_core_base.specs.Bytes.{ascii}
 use Rattle.page_roff_lines.specs.declared.Mode.{Mode}
 use Rattle.page_roff_lines.specs.declared.Mode.TheVariants.{Plain, Backslash, Comment, Dropped}
 use Rattle.page_roff_lines.specs.declared.Mark.{Mark}
 use Rattle.page_roff_lines.specs.declared.Mark.TheVariants.{Absent, Present}
 use Rattle.page_roff_lines.specs.laws.Views.{newline, carriage_return}
-use Rattle.page_roff_lines.specs.Lines.{backslash}
 use Rattle.page_roff_lines.specs.machine.Held.{Held, extend}
 use Rattle.page_roff_lines.specs.machine.Open.{Open, restart, next_open, put_byte, put_in, put_plain, put_newline, without_return, newline_in, close, put, count_byte, ends_mark, mark_after, if_whole, whole_lines, open_after}
 use Rattle.page_roff_lines.specs.machine.Run.{ends_run, is_settled, run_in, with_run}
@@ -28,8 +28,8 @@ or_false true b h = cc
 pub plain_byte : (t : Held) (r g : Bool) (n p k : ℕ) (a : Mark) (b : ℕ) → is_settled a ≡ true → ends_run Plain b ≡ false
     → next_open (st Plain t r g n p k a) b ≡ st Plain (extend t (b ∷ [])) (b == carriage_return) true n p (k + 1) a
 unfolding next_open put_byte put_in put_plain put count_byte restart ends_mark mark_after
-plain_byte t r g n p k Absent b h e = let f = or_false (b == newline) (b == backslash) e in rw (f.0, f.1) refl
-plain_byte t r g n p k Present b h e = let f = or_false (b == newline) (b == backslash) e in rw (f.0, f.1) refl
+plain_byte t r g n p k Absent b h e = let f = or_false (b == newline) (b == ascii "\\") e in rw (f.0, f.1) refl
+plain_byte t r g n p k Present b h e = let f = or_false (b == newline) (b == ascii "\\") e in rw (f.0, f.1) refl
 plain_byte t r g n p k _ b h e = cc
 
 pub comment_byte : (t : Held) (r g : Bool) (n p k : ℕ) (a : Mark) (b : ℕ) → is_settled a ≡ true → ends_run Comment b ≡ false

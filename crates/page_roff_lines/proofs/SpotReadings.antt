@@ -1,13 +1,14 @@
 -- What a physical line gives, from each spot of its reading on.
-use Rattle.std.proofs.Common.{◌≡◌, ℕ, suc, ◌+◌, ◌-◌, Bool, true, false, cond, List, [], ◌∷◌, ◌++◌, length, get_or, refl, sym, ap, ◌∙◌, append_assoc, append-nil, arith}
+use Rattle.std.proofs.Common.{◌≡◌, ℕ, suc, ◌+◌, Bool, true, false, cond, List, [], ◌∷◌, ◌++◌, length, get_or, refl, sym, ap, ◌∙◌, append_assoc, append-nil, arith}
 use Rattle.std.specs.Prelude.{not, All, ◌==◌}
 use Rattle.std.specs.Str.Lines.{strip_carriage_return}
+use Rattle.page_core_base.specs.Bytes.{ascii}
 use Rattle.page_roff_lines.specs.declared.Mode.{Mode}
 use Rattle.page_roff_lines.specs.declared.Mode.TheVariants.{Plain}
 use Rattle.page_roff_lines.specs.declared.Mark.{Mark}
 use Rattle.page_roff_lines.specs.declared.Mark.TheVariants.{Absent, Present}
 use Rattle.page_roff_lines.specs.laws.Views.{newline, carriage_return}
-use Rattle.page_roff_lines.specs.Lines.{backslash, Physical, after_byte, read, read_pair}
+use Rattle.page_roff_lines.specs.Lines.{Physical, after_byte, read, read_pair}
 use Rattle.page_roff_lines.specs.machine.Held.{Held, hold, shorten}
 use Rattle.page_roff_lines.specs.machine.Open.{Open, restart, next_open, put_byte, put_newline, newline_in, without_return, close, count_byte, ends_mark, mark_after, end_open, end_in, open_after, whole_lines, if_whole}
 use Rattle.page_roff_lines.specs.machine.Run.{is_settled}
@@ -107,11 +108,11 @@ newline-at : (a : Mark) (n p k : ℕ) (s : Spot) (text : List ℕ)
 unfolding put_newline newline_in without_return close read read_pair
 newline-at a n p k plain text = refl
 newline-at a n p k returned text = ap (λ h. any true Plain h false false n (p + 1) k a) (popped text carriage_return)
-newline-at a n p k slash text = ap (λ h. any false Plain h false true n (p + 1) k a) (popped text backslash)
+newline-at a n p k slash text = ap (λ h. any false Plain h false true n (p + 1) k a) (popped text (ascii "\\"))
 newline-at a n p k slash_returned text =
     ap (λ h. any false Plain (shorten h) false true n (p + 1) k a)
-    (ap (λ l. shorten (hold l)) (sym (append_assoc text (backslash ∷ []) (carriage_return ∷ []))) ∙ hold-pop (text ++ backslash ∷ []) carriage_return)
-    ∙ ap (λ h. any false Plain h false true n (p + 1) k a) (popped text backslash)
+    (ap (λ l. shorten (hold l)) (sym (append_assoc text (ascii "\\" ∷ []) (carriage_return ∷ []))) ∙ hold-pop (text ++ ascii "\\" ∷ []) carriage_return)
+    ∙ ap (λ h. any false Plain h false true n (p + 1) k a) (popped text (ascii "\\"))
 newline-at a n p k noted text = refl
 newline-at a n p k noted_returned text = ap (λ h. any true Plain h false false n (p + 1) k a) (popped text carriage_return)
 newline-at a n p k dropping text = refl
@@ -122,7 +123,7 @@ end_open-at : (a : Mark) (n p k : ℕ) (s : Spot) (text : List ℕ)
 unfolding end_open end_in restart close read read_pair
 end_open-at a n p k plain text = refl
 end_open-at a n p k returned text = refl
-end_open-at a n p k slash text = ap (λ h. any true Plain h false false n p k a) (popped text backslash)
+end_open-at a n p k slash text = ap (λ h. any true Plain h false false n p k a) (popped text (ascii "\\"))
 end_open-at a n p k slash_returned text = refl
 end_open-at a n p k noted text = refl
 end_open-at a n p k noted_returned text = refl

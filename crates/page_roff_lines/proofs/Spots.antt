@@ -2,13 +2,13 @@
 use Rattle.std.proofs.Common.{◌≡◌, ℕ, zero, suc, ◌+◌, ◌-◌, Bool, true, false, List, [], ◌∷◌, ◌++◌, length, take, refl, ap, ◌∙◌, append_assoc, append-nil, length-append, arith}
 use Rattle.std.specs.Prelude.{◌==◌, if◌then◌else◌}
 use Rattle.std.proofs.lemmas.Bool.Decides.{eqb_tells}
+use Rattle.page_core_base.specs.Bytes.{ascii}
 use Rattle.page_roff_decoding.specs.Decoding.{line_limit}
 use Rattle.page_roff_lines.specs.declared.Mode.{Mode}
 use Rattle.page_roff_lines.specs.declared.Mode.TheVariants.{Plain, Backslash, Comment, Dropped}
 use Rattle.page_roff_lines.specs.declared.Mark.{Mark}
 use Rattle.page_roff_lines.specs.declared.Mark.TheVariants.{Absent, Present}
 use Rattle.page_roff_lines.specs.laws.Views.{newline, carriage_return}
-use Rattle.page_roff_lines.specs.Lines.{backslash, quote, hash}
 use Rattle.page_roff_lines.specs.machine.Held.{Held, hold, extend, shorten}
 use Rattle.page_roff_lines.specs.machine.Open.{Open, restart, next_open, put_byte, put_in, put_plain, put_pair, pair_mode, put, count_byte, ends_mark, mark_after}
 use Rattle.page_roff_lines.specs.machine.Run.{is_settled}
@@ -45,8 +45,8 @@ return_of dropping = false
 abbrev pub pending : Spot → List ℕ
 pending plain = []
 pending returned = carriage_return ∷ []
-pending slash = backslash ∷ []
-pending slash_returned = backslash ∷ carriage_return ∷ []
+pending slash = ascii "\\" ∷ []
+pending slash_returned = ascii "\\" ∷ carriage_return ∷ []
 pending noted = []
 pending noted_returned = carriage_return ∷ []
 pending dropping = []
@@ -56,10 +56,10 @@ abbrev pub at : Mark → ℕ → ℕ → Spot → List ℕ → ℕ → Open
 at a n p s text k = st (mode_of s) (hold (text ++ pending s)) (return_of s) true n p k a
 
 abbrev plain_next : ℕ → Spot
-plain_next b = if b == backslash then slash else (if b == carriage_return then returned else plain)
+plain_next b = if b == ascii "\\" then slash else (if b == carriage_return then returned else plain)
 
 abbrev plain_text : List ℕ → ℕ → List ℕ
-plain_text text b = if b == backslash then text else (if b == carriage_return then text else text ++ b ∷ [])
+plain_text text b = if b == ascii "\\" then text else (if b == carriage_return then text else text ++ b ∷ [])
 
 abbrev noted_next : ℕ → Spot
 noted_next b = if b == carriage_return then noted_returned else noted
@@ -70,7 +70,7 @@ noted_text text b = if b == carriage_return then text else text ++ b ∷ []
 abbrev pub next : Spot → ℕ → Spot
 next plain b = plain_next b
 next returned b = plain_next b
-next slash b = if b == quote then noted else (if b == hash then dropping else (if b == carriage_return then slash_returned else plain))
+next slash b = if b == ascii "\"" then noted else (if b == ascii "#" then dropping else (if b == carriage_return then slash_returned else plain))
 next slash_returned b = plain_next b
 next noted b = noted_next b
 next noted_returned b = noted_next b
@@ -79,8 +79,8 @@ next dropping b = dropping
 abbrev pub next_text : Spot → List ℕ → ℕ → List ℕ
 next_text plain text b = plain_text text b
 next_text returned text b = plain_text (text ++ carriage_return ∷ []) b
-next_text slash text b = if b == quote then text ++ backslash ∷ quote ∷ [] else (if b == hash then text else (if b == carriage_return then text else text ++ backslash ∷ b ∷ []))
-next_text slash_returned text b = plain_text (text ++ backslash ∷ carriage_return ∷ []) b
+next_text slash text b = if b == ascii "\"" then text ++ ascii "\\" ∷ ascii "\"" ∷ [] else (if b == ascii "#" then text else (if b == carriage_return then text else text ++ ascii "\\" ∷ b ∷ []))
+next_text slash_returned text b = plain_text (text ++ ascii "\\" ∷ carriage_return ∷ []) b
 next_text noted text b = noted_text text b
 next_text noted_returned text b = noted_text (text ++ carriage_return ∷ []) b
 next_text dropping text b = text
@@ -103,8 +103,8 @@ hold-pop text b =
     rw (count, take-length-take line_limit text (b ∷ [])) refl
 
 -- a byte is one of those that cutting looks at, or another
-pub by_byte : (P : ℕ → Type 0) → P backslash → P quote → P hash → P carriage_return
-    → ((b : ℕ) → (b == backslash) ≡ false → (b == quote) ≡ false → (b == hash) ≡ false → (b == carriage_return) ≡ false → P b) → (b : ℕ) → P b
+pub by_byte : (P : ℕ → Type 0) → P (ascii "\\") → P (ascii "\"") → P (ascii "#") → P carriage_return
+    → ((b : ℕ) → (b == ascii "\\") ≡ false → (b == ascii "\"") ≡ false → (b == ascii "#") ≡ false → (b == carriage_return) ≡ false → P b) → (b : ℕ) → P b
 by_byte P p q h c other b = grind (arith, eqb_tells)
 
 -- a byte that ends no physical line, when the page's first bytes are read
@@ -129,7 +129,7 @@ unfolding put
 put_comment-at a n p k m r text = grind (arith, by_byte, st, grown, append-nil, hold-push)
 
 put_pair-at : (a : Mark) (n p k : ℕ) (text : List ℕ) (b : ℕ)
-    → put_pair (st Backslash (hold (text ++ backslash ∷ [])) false true n p k a) b ≡ at a n p (next slash b) (next_text slash text b) k
+    → put_pair (st Backslash (hold (text ++ ascii "\\" ∷ [])) false true n p k a) b ≡ at a n p (next slash b) (next_text slash text b) k
 unfolding put_pair pair_mode put
 put_pair-at a n p k text = grind (arith, by_byte, st, grown, append_assoc, append-nil, hold-pop)
 
@@ -139,7 +139,7 @@ unfolding put_in
 put_in-at a n p k plain text b = rw append-nil (put_plain-at a n p k Plain false text b)
 put_in-at a n p k returned text b = put_plain-at a n p k Plain true (text ++ carriage_return ∷ []) b
 put_in-at a n p k slash text b = put_pair-at a n p k text b
-put_in-at a n p k slash_returned text b = put_plain-at a n p k Backslash true (text ++ backslash ∷ carriage_return ∷ []) b
+put_in-at a n p k slash_returned text b = put_plain-at a n p k Backslash true (text ++ ascii "\\" ∷ carriage_return ∷ []) b
 put_in-at a n p k noted text b = rw append-nil (put_comment-at a n p k Comment false text b)
 put_in-at a n p k noted_returned text b = put_comment-at a n p k Comment true (text ++ carriage_return ∷ []) b
 put_in-at a n p k dropping text b = refl

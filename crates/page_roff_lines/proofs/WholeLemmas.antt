@@ -3,12 +3,13 @@ use Rattle.std.proofs.Common.{◌≡◌, ℕ, ◌-◌, Bool, true, false, cond, 
 use Rattle.std.specs.Prelude.{◌==◌, ⊤}
 use Rattle.std.proofs.Math.Seq.{take-append_seam, drop-append_seam}
 use Rattle.std.proofs.lemmas.Bool.Decides.{eqb_tells}
+use Rattle.page_core_base.specs.Bytes.{ascii}
 use Rattle.page_core_base.specs.declared.page_settings.Encoding.{Encoding}
 use Rattle.page_roff_lines.specs.declared.Mode.{Mode}
 use Rattle.page_roff_lines.specs.declared.Mode.TheVariants.{Plain, Backslash, Comment, Dropped}
 use Rattle.page_roff_lines.specs.declared.Mark.{Mark}
 use Rattle.page_roff_lines.specs.declared.Mark.TheVariants.{Unread, First, Second, Absent, Present}
-use Rattle.page_roff_lines.specs.Lines.{hash, letter, whole_lines, lines_made, line_left}
+use Rattle.page_roff_lines.specs.Lines.{letter, whole_lines, lines_made, line_left}
 use Rattle.page_roff_lines.specs.machine.Open.{Open, restart, close, count_byte, put, put_plain, put_pair, pair_mode, put_in, newline_in, put_newline, put_byte, ends_mark, mark_after, next_open, end_open}
 use Rattle.page_roff_lines.specs.laws.Cutting.{Point, first_point, point_at, next_point, end_point, point_after, line_at, lines_within, last_line}
 use Rattle.page_roff_lines.proofs.OpenLaws.{next_open-mark}
@@ -47,7 +48,7 @@ put_in-begun Plain r o b h g = begun-goes (put_plain o b).mode
 put_in-begun Comment r o b h g = refl
 put_in-begun Dropped r o b h g = g
 put_in-begun Backslash true o b h g = begun-goes (put_plain o b).mode
-put_in-begun Backslash false o b h g = either-begun (b == hash) _ _ h (begun-goes (pair_mode b))
+put_in-begun Backslash false o b h g = either-begun (b == ascii "#") _ _ h (begun-goes (pair_mode b))
 
 newline_in-begun : (m : Mode) (o : Open) → HasBegun (newline_in m o)
 unfolding newline_in close

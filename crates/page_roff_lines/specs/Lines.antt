@@ -2,24 +2,11 @@
 use Rattle.std.specs.List.{starts_with}
 use Rattle.std.specs.Prelude.{ℕ, List, [], ◌∷◌, Bool, true, false, ◌==◌, if◌then◌else◌, ◌+◌, ◌++◌, nat_eq, drop, nat_lt, length, take, map, ◌||◌, ◌-◌}
 use Rattle.std.specs.Str.Lines.{lines as physical_lines}
+use Rattle.page_core_base.specs.Bytes.{ascii}
 use Rattle.page_core_base.specs.Messages.{Message}
 use Rattle.page_core_base.specs.declared.page_settings.Encoding.{Encoding}
 use Rattle.page_core_base.specs.declared.page_settings.Encoding.TheVariants.{Auto, Utf8}
 use Rattle.page_roff_decoding.specs.Decoding.{line_limit, Character, line_characters, characters, all_bytes, bad_notes, limit_notes, choice_of}
-
--- ---- The bytes that cutting looks at.
-
--- `\`
-abbrev pub backslash : ℕ
-backslash = 92
-
--- `"`
-abbrev pub quote : ℕ
-quote = 34
-
--- `#`
-abbrev pub hash : ℕ
-hash = 35
 
 -- ---- How a physical line is read: a backslash and its next byte are a pair.
 -- Source: roff(7), "Comments" and "Escape sequences".
@@ -38,15 +25,15 @@ after_byte b r = record { text = b ∷ r.text; joins = r.joins }
 unfoldable mutual
   pub read : List ℕ → Physical
   read [] = record { text = []; joins = false }
-  read (b ∷ bs) = if b == backslash then read_pair bs else after_byte b (read bs)
+  read (b ∷ bs) = if b == ascii "\\" then read_pair bs else after_byte b (read bs)
 
   -- what follows a backslash
   pub read_pair : List ℕ → Physical
   read_pair [] = record { text = []; joins = true }
   read_pair (c ∷ bs) =
-      if c == quote then record { text = backslash ∷ c ∷ bs; joins = false }
-      else (if c == hash then record { text = []; joins = true }
-      else after_byte backslash (after_byte c (read bs)))
+      if c == ascii "\"" then record { text = ascii "\\" ∷ c ∷ bs; joins = false }
+      else (if c == ascii "#" then record { text = []; joins = true }
+      else after_byte (ascii "\\") (after_byte c (read bs)))
 
 -- ---- The logical lines of a page, of which each is one physical line or several that were joined.
 

@@ -1,7 +1,8 @@
 -- What a text is made of: bytes that are copied, and interpolations. Source: roff(7), "Escape sequences", `\*`, `\n`, `\$`, `\w`,
 -- and on copy mode.
-use Rattle.std.specs.Prelude.{ℕ, List, ◌+◌, take, drop, ◌==◌, Option, Some, None, if◌then◌else◌, position, option_map, [], ◌∷◌, nat_lt, length, Bool, not, ◌&&◌, unwrap_or, zero, suc}
-use Rattle.page_roff_syntax.specs.Delimiters.{character_len, place_of, begins_pair}
+use Rattle.std.specs.Prelude.{ℕ, List, ◌+◌, take, drop, ◌==◌, Option, Some, None, if◌then◌else◌, position, option_map, [], ◌∷◌, nat_lt, length, Bool, not, ◌&&◌, unwrap_or, zero, suc, codes}
+use Rattle.page_core_base.specs.Bytes.{begins_escape, ascii}
+use Rattle.page_roff_syntax.specs.Delimiters.{character_len, place_of}
 use Rattle.page_roff_parts.specs.declared.parts.Call.{Call}
 use Rattle.page_roff_parts.specs.declared.parts.Call.TheVariants.{Argument, String, Register, Width}
 use Rattle.page_roff_parts.specs.declared.parts.Part.{Part}
@@ -25,14 +26,14 @@ two_characters text =
     if m == 0 then None else Some (cut (n + m) 0 text)
 
 abbrev pub bracketed : List ℕ → Option CutText
-bracketed text = option_map (λ k. cut k 1 text) (position (λ b. b == 93) text)
+bracketed text = option_map (λ k. cut k 1 text) (position (λ b. b == ascii "]") text)
 
 -- none where the text ends before the name does
 abbrev pub name_cut : List ℕ → Option CutText
 name_cut [] = None
 name_cut (b ∷ bs) =
-    if b == 40 then two_characters bs
-    else (if b == 91 then bracketed bs else Some (cut (character_len (b ∷ bs)) 0 (b ∷ bs)))
+    if b == ascii "(" then two_characters bs
+    else (if b == ascii "[" then bracketed bs else Some (cut (character_len (b ∷ bs)) 0 (b ∷ bs)))
 
 -- ---- texts between two delimiters
 
@@ -44,9 +45,9 @@ content_len delimiter text = let place = place_of delimiter text in if nat_lt pl
 abbrev pub delimited : ℕ → List ℕ → Option CutText
 delimited n text = option_map (λ k. cut k n (drop n text)) (content_len (take n text) (drop n text))
 
--- None where the text ends before the second delimiter. A backslash (92) begins a pair, so it is none.
+-- None where the text ends before the second delimiter. A backslash begins a pair, so it is none.
 abbrev pub width_cut : List ℕ → Option CutText
-width_cut text = if begins_pair text then None else delimited (character_len text) text
+width_cut text = if begins_escape text then None else delimited (character_len text) text
 
 -- ---- parts
 
@@ -64,42 +65,42 @@ calls call rest = record { part = Called call; rest = rest }
 -- the bytes before the first backslash, and those from it on
 abbrev pub plain : List ℕ → List ℕ
 plain [] = []
-plain (b ∷ bs) = if b == 92 then [] else b ∷ plain bs
+plain (b ∷ bs) = if b == ascii "\\" then [] else b ∷ plain bs
 
 abbrev pub after_plain : List ℕ → List ℕ
 after_plain [] = []
-after_plain (b ∷ bs) = if b == 92 then b ∷ bs else after_plain bs
+after_plain (b ∷ bs) = if b == ascii "\\" then b ∷ bs else after_plain bs
 
 -- `\$` and its next character, if there is one
 abbrev pub argument_call : List ℕ → SeenText
-argument_call bs = let n = character_len bs in calls (Argument (92 ∷ 36 ∷ take n bs)) (drop n bs)
+argument_call bs = let n = character_len bs in calls (Argument (ascii "\\" ∷ ascii "$" ∷ take n bs)) (drop n bs)
 
 -- the interpolation of a backslash, this letter (* 42, n 110, $ 36, w 119) and what follows. In copy mode there is no `\w`.
 abbrev pub call_cut : Bool → ℕ → List ℕ → Option SeenText
 call_cut copy letter bs =
-    if letter == 42 then option_map (λ c. calls (String c.front) c.rest) (name_cut bs)
-    else (if letter == 110 then option_map (λ c. calls (Register c.front) c.rest) (name_cut bs)
-    else (if letter == 36 then Some (argument_call bs)
-    else (if letter == 119 && not copy then option_map (λ c. calls (Width c.front) c.rest) (width_cut bs)
+    if letter == ascii "*" then option_map (λ c. calls (String c.front) c.rest) (name_cut bs)
+    else (if letter == ascii "n" then option_map (λ c. calls (Register c.front) c.rest) (name_cut bs)
+    else (if letter == ascii "$" then Some (argument_call bs)
+    else (if letter == ascii "w" && not copy then option_map (λ c. calls (Width c.front) c.rest) (width_cut bs)
     else None)))
 
 -- a backslash and its next character
 abbrev pub pair : List ℕ → SeenText
-pair bs = let n = character_len bs in copies (92 ∷ take n bs) (drop n bs)
+pair bs = let n = character_len bs in copies (ascii "\\" ∷ take n bs) (drop n bs)
 
 abbrev pub is_doubled : Bool → ℕ → Bool
-is_doubled copy letter = copy && letter == 92
+is_doubled copy letter = copy && letter == ascii "\\"
 
 -- what is after a backslash. In copy mode another one makes it one. An interpolation without its end stays a pair.
 abbrev pub escape : Bool → List ℕ → SeenText
-escape copy [] = copies (92 ∷ []) []
+escape copy [] = copies (codes "\\") []
 escape copy (letter ∷ bs) =
-    if is_doubled copy letter then copies (92 ∷ []) bs
+    if is_doubled copy letter then copies (codes "\\") bs
     else unwrap_or (call_cut copy letter bs) (pair (letter ∷ bs))
 
 unfoldable pub seen : Bool → List ℕ → SeenText
 seen copy [] = copies [] []
-seen copy (b ∷ bs) = if b == 92 then escape copy bs else copies (b ∷ plain bs) (after_plain bs)
+seen copy (b ∷ bs) = if b == ascii "\\" then escape copy bs else copies (b ∷ plain bs) (after_plain bs)
 
 -- the parts of a text, at most n of them
 unfoldable pub parts_up_to : Bool → ℕ → List ℕ → List (Part (List ℕ))
@@ -116,5 +117,5 @@ parts copy text = parts_up_to copy (length text) text
 -- a value loses a lone backslash at its end
 unfoldable pub without_lone : List ℕ → List ℕ
 without_lone [] = []
-without_lone (b ∷ []) = if b == 92 then [] else b ∷ []
-without_lone (b ∷ c ∷ bs) = if b == 92 then b ∷ c ∷ without_lone bs else b ∷ without_lone (c ∷ bs)
+without_lone (b ∷ []) = if b == ascii "\\" then [] else b ∷ []
+without_lone (b ∷ c ∷ bs) = if b == ascii "\\" then b ∷ c ∷ without_lone bs else b ∷ without_lone (c ∷ bs)

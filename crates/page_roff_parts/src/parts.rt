@@ -1,9 +1,9 @@
 //! What a text is made of (roff(7), "Escape sequences").
 
 ghost use Rattle.std.specs.Prelude.{◌≡◌, ◌<◌, ◌≤◌, ◌+◌, ◌==◌, length, Some, None, IsTrue, option_map, IfSome, take, drop, get_or};
+ghost use Rattle.page_core_base.specs.Bytes.{begins_escape};
 ghost use Rattle.page_roff_parts.specs.machine.Brackets.{IsKnown};
 ghost use Rattle.page_roff_parts.specs.Parts as reading;
-ghost use Rattle.page_roff_parts.specs.laws.Views as reading_laws;
 ghost use Rattle.page_roff_parts.specs.machine.Views.{seen_of, cut_of, call_of};
 
 use crate::endings::after;
@@ -152,7 +152,7 @@ fn called<'e>(call: Call<&'e [u8]>, rest: &'e [u8]) -> Seen<'e>
 // The interpolation at a text's front, where a backslash and a letter are.
 fn read_call<'e>(text: &'e [u8], copy: bool, is_unclosed: &mut bool) -> Option<Seen<'e>>
     requires some { 2 ≤ length text.now }
-    requires escape { IsTrue (reading_laws.begins_escape text.now) }
+    requires escape { IsTrue (begins_escape text.now) }
     requires known { IsKnown is_unclosed.old text.now }
     ensures seen { option_map seen_of result
         ≡ reading.call_cut copy (get_or text.now 1 0) (drop 2 text.now) }
@@ -183,7 +183,7 @@ fn read_call<'e>(text: &'e [u8], copy: bool, is_unclosed: &mut bool) -> Option<S
 // The first part of a text that begins with a backslash.
 fn read_escape<'e>(text: &'e [u8], copy: bool, is_unclosed: &mut bool) -> Seen<'e>
     requires some { 0 < length text.now }
-    requires escape { IsTrue (reading_laws.begins_escape text.now) }
+    requires escape { IsTrue (begins_escape text.now) }
     requires known { IsKnown is_unclosed.old text.now }
     ensures seen { seen_of result ≡ reading.seen copy text.now }
     ensures known { IsKnown is_unclosed.new text.now }

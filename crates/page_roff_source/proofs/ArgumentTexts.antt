@@ -6,13 +6,13 @@ use Rattle.std.proofs.Math.Seq.{take-append_seam, drop-append_seam, get_or-appen
 use Rattle.std.proofs.lemmas.Bool.{and_parts, eqb-true, ltb-true}
 use Rattle.std.proofs.lemmas.Bool.Decides.{nat_tests}
 use Rattle.std.proofs.lemmas.List.{length-take-le}
-use Rattle.page_roff_syntax.specs.Arguments.{is_blank, bare_len, quoted_len, quoting_of, is_quoted, quoted_argument, bare_argument, argument_len as first_len, first_arguments, arguments, argument_value}
+use Rattle.page_roff_syntax.specs.Arguments.{is_blank, bare_len, quoted_len, quoting_of, is_quoted, quoted_argument, bare_argument, argument_len as first_len, first_arguments, arguments, argument_value, after_blanks}
 use Rattle.page_core_base.specs.Texts.{unpaired}
 use Rattle.page_roff_syntax.specs.declared.quotes.Argument.{Argument}
 use Rattle.page_roff_syntax.specs.declared.quotes.Quoting.TheVariants.{Closed, Unclosed}
 use Rattle.page_roff_values.specs.machine.Texts.{IsText}
 use Rattle.page_roff_values.proofs.PlainTexts.{text_append, text_cut, text_after}
-use Rattle.page_roff_definitions.specs.Definitions.{closing_len, end_of, after_blanks, without_quote, value_after}
+use Rattle.page_roff_definitions.specs.Definitions.{closing_len, end_of, without_quote, value_after}
 use Rattle.page_roff_source.proofs.Cuts.{CutsAt, end_cut, past_ascii, IsStop, stop_cut, stop_later, stop_start, after_ascii, prefix_cut, byte_low, blank_low}
 
 -- ---- where an argument ends

@@ -6,11 +6,12 @@ use Rattle.std.proofs.lemmas.Bool.{or_cases, eqb-true}
 use Rattle.std.proofs.lemmas.List.{length-take}
 use Rattle.std.proofs.lemmas.List.Sums.{prefix_len-le-length, prefix_len_stops}
 use Rattle.std.proofs.lemmas.Str.{IsUtf8-drop, IsUtf8-nil, IsCharBoundary-after_ascii}
+use Rattle.page_core_base.specs.Bytes.{is_white}
 use Rattle.page_core_base.specs.declared.limits.TheConstants.{LINE}
 use Rattle.page_core_base.specs.Texts.{IsLine}
 pub use Rattle.page_core_escapes.proofs.Characters.{CutsAt, CutsAt-boundary, CutsAt-add, CutsAt-ascii}
 use Rattle.page_roff_syntax.specs.Arguments.{is_blank}
-use Rattle.page_roff_syntax.specs.LineForms.{is_white, is_name}
+use Rattle.page_roff_syntax.specs.LineForms.{is_name}
 use Rattle.page_roff_values.specs.machine.Texts.{IsText}
 use Rattle.page_roff_values.proofs.PlainTexts.{nil_text, text_cut}
 

@@ -4,26 +4,28 @@ use Rattle.std.specs.Prelude.{IsUtf8}
 use Rattle.std.specs.List.{starts_with, list_all}
 use Rattle.std.proofs.Math.Utf8.{encode}
 use Rattle.std.proofs.lemmas.Bool.{cases_Bool, and_parts, or_cases, leb-true, ltb-true}
+use Rattle.std.specs.Int.{is_in_range}
+use Rattle.page_core_base.specs.Bytes.{is_white, is_among}
 use Rattle.page_core_escapes.proofs.Boundaries.{character_ends}
-use Rattle.page_roff_syntax.specs.Arguments.{is_blank}
-use Rattle.page_roff_syntax.specs.LineForms.{is_white, is_name}
-use Rattle.page_roff_heads.specs.Conditions.{is_among, is_between, is_letter, begins_expression, kind_of, name_len, second_of, both_len, has_both, texts_after, texts_at, read_test, turn_len, condition_len, argument_len, expression_rest, expression_len, blank_len, after_blanks}
+use Rattle.page_roff_syntax.specs.Arguments.{is_blank, blank_len, after_blanks}
+use Rattle.page_roff_syntax.specs.LineForms.{is_name}
+use Rattle.page_roff_heads.specs.Conditions.{is_letter, begins_expression, kind_of, name_len, second_of, both_len, has_both, texts_after, texts_at, read_test, turn_len, condition_len, argument_len, expression_rest, expression_len}
 use Rattle.page_roff_syntax.specs.Delimiters.{character_len, delimiter_of, place_of}
 use Rattle.page_roff_values.proofs.PartTexts.{taken}
 use Rattle.page_roff_source.proofs.Cuts.{CutsAt, CutsAt-add, start_cut, end_cut, past_ascii, IsStop, stop_cut, stop_later, stop_start, prefix_cut, prefix_stop, byte_low, blank_low, white_low, name_low}
 
 -- ---- kinds of tests
 
-among_low : (bytes : List ℕ) (b : ℕ) → list_all (λ k. nat_lt k 128) bytes ≡ true → is_among bytes b ≡ true → b < 128
+among_low : (bytes : List ℕ) (b : ℕ) → list_all (λ k. nat_lt k 128) bytes ≡ true → is_among b bytes ≡ true → b < 128
 among_low [] b all e = cc
 among_low (k ∷ ks) b all e =
     let parts = and_parts (nat_lt k 128) (list_all (λ k. nat_lt k 128) ks) all in
-    elim (or_cases (b == k) (is_among ks b) e) [
+    elim (or_cases (b == k) (is_among b ks) e) [
       | inl same ↦ byte_low b k (ltb-true k 128 parts.0) same
       | inr later ↦ among_low ks b parts.1 later
     ]
 
-between_low : (first last b : ℕ) → last < 128 → is_between first last b ≡ true → b < 128
+between_low : (first last b : ℕ) → last < 128 → is_in_range first last b ≡ true → b < 128
 between_low first last b low e =
     let parts = and_parts (nat_le first b) (nat_le b last) e in
     let high = leb-true b last parts.1 in
@@ -31,7 +33,7 @@ between_low first last b low e =
 
 letter_low : (b : ℕ) → is_letter b ≡ true → b < 128
 letter_low b e =
-    elim (or_cases (is_between 65 90 b) (is_between 97 122 b) e) [
+    elim (or_cases (is_in_range 65 90 b) (is_in_range 97 122 b) e) [
       | inl capital ↦ between_low 65 90 b (omega arith) capital
       | inr small ↦ between_low 97 122 b (omega arith) small
     ]
@@ -135,10 +137,10 @@ test_cut : (column : ℕ) (t : List ℕ) → IsUtf8 t → CutsAt t (read_test co
 unfolding read_test kind_of
 test_cut column [] u = start_cut [] u
 test_cut column (b ∷ bs) u =
-    elim (cases_Bool (is_among (codes "no") b)) [
+    elim (cases_Bool (is_among b (codes "no"))) [
       | inl e ↦ rw e (one_cut b bs u (among_low (codes "no") b refl e))
       | inr e ↦
-          rw e (elim (cases_Bool (is_among (codes "tev") b)) [
+          rw e (elim (cases_Bool (is_among b (codes "tev"))) [
             | inl e ↦ rw e (one_cut b bs u (among_low (codes "tev") b refl e))
             | inr e ↦
                 rw e (elim (cases_Bool (b == 100)) [

@@ -7,13 +7,14 @@ use Rattle.std.proofs.lemmas.Bool.{and_parts, or_cases, eqb-true, ltb-true}
 use Rattle.std.proofs.lemmas.List.{get_or-take, length-take}
 use Rattle.std.proofs.lemmas.List.Sums.{prefix_len_passes}
 use Rattle.std.proofs.lemmas.Str.{IsUtf8-drop}
+use Rattle.page_core_base.specs.Bytes.{is_white}
 use Rattle.page_core_base.specs.Texts.{IsLine}
-use Rattle.page_roff_syntax.specs.Arguments.{is_blank}
-use Rattle.page_roff_syntax.specs.LineForms.{is_white, is_name, is_control, has_word, begins_comment, without_comment, name_start, name_len, control_line, uncommented_form, form_of}
+use Rattle.page_roff_syntax.specs.Arguments.{is_blank, blank_len, after_blanks}
+use Rattle.page_roff_syntax.specs.LineForms.{is_name, is_control, has_word, begins_comment, without_comment, name_start, name_len, control_line, uncommented_form, form_of}
 use Rattle.page_roff_syntax.specs.declared.line_forms.LineForm.TheVariants.{BlankLine, Text, Control}
 use Rattle.page_roff_heads.specs.declared.texts.Placed.{Placed}
 use Rattle.page_roff_heads.specs.declared.heads.BlockEnd.{BlockEnd}
-use Rattle.page_roff_heads.specs.Conditions.{condition_len, placed, blank_len, after_blanks, begins_pair, is_some_line, remainder_of}
+use Rattle.page_roff_heads.specs.Conditions.{condition_len, placed, begins_pair, is_some_line, remainder_of}
 use Rattle.page_roff_heads.specs.declared.loops.LoopRead.{LoopRead}
 use Rattle.page_roff_heads.specs.Heads.{guards, guarded_of, conditional_of, end_place, block_end_of, first_of, loop_of}
 use Rattle.page_roff_values.proofs.GrowLemmas.{HasNoneBefore}

@@ -8,7 +8,8 @@ use Rattle.std.proofs.lemmas.Bool.{cases_Bool, eqb-true, ltb-true, ltb-false}
 use Rattle.std.proofs.lemmas.Bool.Decides.{nat_tests}
 use Rattle.std.proofs.lemmas.List.{drop-drop, get_or-drop, get_or-take, get_or-set_same, get_or-set_other}
 use Rattle.std.proofs.lemmas.Nat.Bits.{bit_at_or, bit_at_set_same}
-use Rattle.page_roff_syntax.specs.Delimiters.{begins_pair, character_len, place_of, width_len}
+use Rattle.page_core_base.specs.Bytes.{begins_escape}
+use Rattle.page_roff_syntax.specs.Delimiters.{character_len, place_of, width_len}
 use Rattle.page_roff_syntax.specs.machine.Closed.{AreMarked, AreMet, Grows, code_of, goes_on, is_met, is_noted, is_outside}
 use Rattle.page_roff_syntax.proofs.DelimiterLemmas.{place_found}
 
@@ -132,7 +133,7 @@ outside_drop (suc n) at text e =
 pub lone_width : (words text : List ℕ) (at : ℕ) → at < length text → AreMet words text (at + 1) → is_noted (drop at text) ≡ true
     → is_met words (code_of (drop at text)) ≡ false → width_len (drop at text) ≡ 0
 lone_width words text at within met noted lacks =
-    elim (cases_Bool (begins_pair t)) [
+    elim (cases_Bool (begins_escape t)) [
       | inl p ↦ rw p refl
       | inr p ↦ elim (cases_Bool (nat_lt (place_of d u) (length u))) [
         | inl x ↦ absurd (apart (sym (closed (ltb-true (place_of d u) (length u) x)) ∙ lacks))

@@ -2,7 +2,8 @@
 use Rattle.std.proofs.Common.{◌≡◌, ℕ, zero, suc, ◌+◌, ◌≤◌, ◌==◌, Bool, true, false, nat_lt, List, [], ◌∷◌, length, take, drop, Some, refl, ap, ◌∙◌, arith}
 use Rattle.std.specs.List.{prefix_len}
 use Rattle.std.proofs.lemmas.Bool.Decides.{nat_tests}
-use Rattle.page_roff_syntax.specs.LineForms.{is_white, is_name, is_control, has_word, without_comment, name_start, name_len, control_line, form_of}
+use Rattle.page_core_base.specs.Bytes.{is_white}
+use Rattle.page_roff_syntax.specs.LineForms.{is_name, is_control, has_word, without_comment, name_start, name_len, control_line, form_of}
 use Rattle.page_roff_syntax.specs.laws.Views.{is_plain, begins_control, name_of}
 use Rattle.page_roff_syntax.specs.declared.line_forms.LineForm.TheVariants.{Control}
 

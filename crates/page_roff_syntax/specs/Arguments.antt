@@ -1,33 +1,41 @@
 -- The arguments of a control line. Source: roff(7), "Macro syntax".
 use Rattle.std.specs.List.{prefix_len}
 use Rattle.std.specs.Prelude.{ℕ, Bool, ◌==◌, ◌+◌, List, [], ◌∷◌, if◌then◌else◌, nat_lt, length, true, false, take, drop, min, zero, suc}
+use Rattle.page_core_base.specs.Bytes.{ascii, begins_quote}
 use Rattle.page_core_base.specs.Limits.{NAME}
 use Rattle.page_core_base.specs.Texts.{unpaired}
 use Rattle.page_roff_syntax.specs.declared.quotes.Argument.{Argument}
 use Rattle.page_roff_syntax.specs.declared.quotes.Quoting.{Quoting}
 use Rattle.page_roff_syntax.specs.declared.quotes.Quoting.TheVariants.{Closed, Unclosed, Bare}
 
--- blanks (32) part arguments, tabs do not
+-- blanks part arguments, tabs do not
 abbrev pub is_blank : ℕ → Bool
-is_blank byte = byte == 32
+is_blank byte = byte == ascii " "
 
--- an argument without quotes goes up to a blank; a backslash (92) keeps its next byte
+-- the blanks at a text's front, and what is after them
+abbrev pub blank_len : List ℕ → ℕ
+blank_len text = prefix_len is_blank text
+
+abbrev pub after_blanks : List ℕ → List ℕ
+after_blanks text = drop (blank_len text) text
+
+-- an argument without quotes goes up to a blank; a backslash keeps its next byte
 abbrev pub bare_len : List ℕ → ℕ
 bare_len [] = 0
 bare_len (byte ∷ []) = if is_blank byte then 0 else 1
 bare_len (byte ∷ next ∷ bytes) =
     if is_blank byte then 0
-    else if byte == 92 then 2 + bare_len bytes
+    else if byte == ascii "\\" then 2 + bare_len bytes
     else 1 + bare_len (next ∷ bytes)
 
--- after its first quote (34) a quoted argument goes up to the next lone quote or the end; a pair of quotes is no end, and a backslash
+-- after its first quote a quoted argument goes up to the next lone quote or the end; a pair of quotes is no end, and a backslash
 -- keeps its next byte here, too
 abbrev pub quoted_len : List ℕ → ℕ
 quoted_len [] = 0
-quoted_len (byte ∷ []) = if byte == 34 then 0 else 1
+quoted_len (byte ∷ []) = if byte == ascii "\"" then 0 else 1
 quoted_len (byte ∷ next ∷ bytes) =
-    if byte == 34 then (if next == 34 then 2 + quoted_len bytes else 0)
-    else if byte == 92 then 2 + quoted_len bytes
+    if byte == ascii "\"" then (if next == ascii "\"" then 2 + quoted_len bytes else 0)
+    else if byte == ascii "\\" then 2 + quoted_len bytes
     else 1 + quoted_len (next ∷ bytes)
 
 -- whether it has its last quote
@@ -59,18 +67,14 @@ argument_name argument = take NAME_ROOM (argument_value argument)
 abbrev pub bare_argument : ℕ → List ℕ → Argument (List ℕ)
 bare_argument column text = record { text = take (bare_len text) text; column = column; quoting = Bare }
 
-abbrev pub begins_quoted : List ℕ → Bool
-begins_quoted [] = false
-begins_quoted (byte ∷ bytes) = byte == 34
-
 -- the argument that a text begins with, and its bytes with its quotes
 abbrev pub first_argument : ℕ → List ℕ → Argument (List ℕ)
 first_argument column text =
-    if begins_quoted text then quoted_argument column (drop 1 text) else bare_argument column text
+    if begins_quote text then quoted_argument column (drop 1 text) else bare_argument column text
 
 abbrev pub argument_len : List ℕ → ℕ
 argument_len text =
-    if begins_quoted text then min (length text) (quoted_len (drop 1 text) + 2) else bare_len text
+    if begins_quote text then min (length text) (quoted_len (drop 1 text) + 2) else bare_len text
 
 -- the arguments of a text, of which the first byte is at a column; at most n parts of it are read
 abbrev pub first_arguments : ℕ → ℕ → List ℕ → List (Argument (List ℕ))
@@ -87,4 +91,4 @@ unfoldable pub arguments : ℕ → List ℕ → List (Argument (List ℕ))
 arguments column text = first_arguments (length text) column text
 
 abbrev pub has_arguments : List ℕ → Bool
-has_arguments rest = nat_lt (prefix_len is_blank rest) (length rest)
+has_arguments rest = nat_lt (blank_len rest) (length rest)

@@ -1,7 +1,8 @@
 -- The end of a text, and texts between delimiters. Source: roff(7), "Language syntax".
 use Rattle.std.specs.List.{starts_with}
-use Rattle.std.specs.Prelude.{ℕ, ◌+◌, Bool, ◌==◌, ◌&&◌, List, [], ◌∷◌, if◌then◌else◌, take, min, length, nat_eq, nat_lt, drop, false}
+use Rattle.std.specs.Prelude.{ℕ, ◌+◌, Bool, ◌==◌, ◌&&◌, List, [], ◌∷◌, if◌then◌else◌, take, min, length, nat_eq, nat_lt, drop}
 use Rattle.std.specs.Str.{continuation_len}
+use Rattle.page_core_base.specs.Bytes.{ascii, begins_escape}
 
 -- ---- The end of a text.
 
@@ -25,14 +26,14 @@ character_len (byte ∷ bytes) = min (continuation_len byte + 1) (length (byte �
 abbrev pub delimiter_of : List ℕ → List ℕ
 delimiter_of text = take (character_len text) text
 
--- The bytes before the delimiter's next occurrence, where a backslash (92) and its next byte are a pair; all of
+-- The bytes before the delimiter's next occurrence, where a backslash and its next byte are a pair; all of
 -- them where there is none.
 abbrev pub place_of : List ℕ → List ℕ → ℕ
 place_of delimiter [] = 0
 place_of delimiter (byte ∷ []) = if starts_with nat_eq (byte ∷ []) delimiter then 0 else 1
 place_of delimiter (byte ∷ next ∷ bytes) =
     if starts_with nat_eq (byte ∷ next ∷ bytes) delimiter then 0
-    else if byte == 92 then 2 + place_of delimiter bytes
+    else if byte == ascii "\\" then 2 + place_of delimiter bytes
     else 1 + place_of delimiter (next ∷ bytes)
 
 -- the bytes of a text in delimiters, with these; none where the second is missing
@@ -42,11 +43,6 @@ quoted_len text =
     let place = place_of (delimiter_of text) inner in
     if nat_lt place (length inner) then character_len text + place + character_len text else 0
 
--- a backslash (92)
-abbrev pub begins_pair : List ℕ → Bool
-begins_pair [] = false
-begins_pair (byte ∷ bytes) = byte == 92
-
 -- those of a width, of which a pair is no delimiter
 abbrev pub width_len : List ℕ → ℕ
-width_len text = if begins_pair text then 0 else quoted_len text
+width_len text = if begins_escape text then 0 else quoted_len text

@@ -2,7 +2,8 @@
 
 ghost use Rattle.std.specs.Prelude.{◌≡◌, ◌≤◌, ◌<◌, ◌+◌, length};
 ghost use Rattle.std.specs.Str.{continuation_len};
-ghost use Rattle.page_roff_syntax.specs.Delimiters.{begins_pair, character_len, place_of, quoted_len, width_len};
+ghost use Rattle.page_core_base.specs.Bytes.{begins_escape};
+ghost use Rattle.page_roff_syntax.specs.Delimiters.{character_len, place_of, quoted_len, width_len};
 ghost use Rattle.page_roff_syntax.specs.machine.Closed.{is_outside};
 
 use memchr::memmem;
@@ -84,7 +85,7 @@ fn quoted_len(text: &[u8]) -> usize
 
 /// Whether a text begins with a backslash.
 pub fn begins_pair(text: &[u8]) -> bool
-    ensures { result ≡ begins_pair text.now }
+    ensures { result ≡ begins_escape text.now }
 {
     matches!(text, [b'\\', ..])
 }

@@ -2,7 +2,8 @@
 
 ghost use Rattle.std.specs.Prelude.{◌≡◌, ◌≤◌, ◌<◌, false, length};
 ghost use Rattle.std.specs.List.{prefix_len};
-ghost use Rattle.page_roff_syntax.specs.LineForms.{is_white, is_name, has_word, without_comment, control_line, form_of};
+ghost use Rattle.page_core_base.specs.Bytes.{is_white};
+ghost use Rattle.page_roff_syntax.specs.LineForms.{is_name, has_word, without_comment, control_line, form_of};
 ghost use Rattle.page_roff_syntax.specs.laws.Views.{begins_control, FitsLine, form_view, name_of, name_view};
 
 use crate::comments::uncommented_len;

@@ -2,8 +2,9 @@
 
 ghost use Rattle.std.specs.Prelude.{◌≡◌, ◌≢◌, ◌≤◌, ◌<◌, ◌+◌, ◌^◌, ◌==◌, ◌&&◌, not, length, min, drop, get_or};
 ghost use Rattle.std.specs.List.{prefix_len};
+ghost use Rattle.page_core_base.specs.Bytes.{begins_quote};
 ghost use Rattle.page_roff_syntax.specs.laws.Views.{argument_view};
-ghost use Rattle.page_roff_syntax.specs.Arguments.{is_quoted, bare_len, quoted_len, quoted_argument, begins_quoted, first_argument, argument_len};
+ghost use Rattle.page_roff_syntax.specs.Arguments.{is_quoted, bare_len, quoted_len, quoted_argument, first_argument, argument_len};
 
 use memchr::memchr2;
 
@@ -106,8 +107,8 @@ fn quoted_len(text: &[u8]) -> usize
 }
 
 // Whether a text begins with a quote.
-fn begins_quoted(text: &[u8]) -> bool
-    ensures { result ≡ begins_quoted text.now }
+fn begins_quote(text: &[u8]) -> bool
+    ensures { result ≡ begins_quote text.now }
 {
     match text {
         [] => false,
@@ -145,7 +146,7 @@ pub(crate) fn first_argument(text: &[u8], column: u32) -> (Argument<&[u8]>, usiz
     ensures size { result.1 ≤ length text.now }
     ensures within { result.0.column + length result.0.text.now ≤ column + length text.now }
 {
-    if begins_quoted(text) {
+    if begins_quote(text) {
         return quoted_argument(&text[1..], column);
     }
     let len = bare_len(text);

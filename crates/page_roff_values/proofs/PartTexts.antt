@@ -8,6 +8,7 @@ use Rattle.std.proofs.lemmas.List.Quantifiers.{position-Some}
 use Rattle.std.proofs.lemmas.Bool.Decides.{nat_tests}
 use Rattle.std.proofs.lemmas.Bool.{eqb-true, ltb-true}
 use Rattle.std.proofs.lemmas.Str.{IsCharBoundary-after_ascii}
+use Rattle.page_core_base.specs.Bytes.{begins_escape}
 use Rattle.page_core_escapes.specs.Lengths as escapes
 use Rattle.page_core_escapes.proofs.Characters.{CutsAt, CutsAt-add, Taken, first_of, character_len-encode, character_len-taken}
 use Rattle.page_core_escapes.proofs.Boundaries.{character_begins, character_ends}
@@ -18,7 +19,6 @@ use Rattle.page_roff_parts.specs.declared.parts.Call.TheVariants.{String, Regist
 use Rattle.page_roff_parts.specs.declared.parts.Part.{Part}
 use Rattle.page_roff_parts.specs.declared.parts.Part.TheVariants.{Copied, Called}
 use Rattle.page_roff_parts.specs.Parts.{CutText, SeenText, copies, calls, cut, two_characters, bracketed, name_cut, content_len, delimited, width_cut, plain, after_plain, argument_call, call_cut, pair, is_doubled, escape, seen, parts_up_to, parts, without_lone}
-use Rattle.page_roff_parts.specs.laws.Views.{begins_escape}
 use Rattle.page_roff_values.specs.machine.Texts.{IsText}
 use Rattle.page_roff_values.proofs.PlainTexts.{nil_text, ascii_text, text_append, text_cut, text_at, text_after, text_seam}
 

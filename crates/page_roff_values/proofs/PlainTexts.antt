@@ -11,8 +11,8 @@ use Rattle.std.proofs.lemmas.Str.{IsUtf8-append, IsUtf8-nil, IsUtf8-from_ascii, 
 use Rattle.std.proofs.lemmas.Str.Ascii.{IsAscii-cons, IsAscii-nil}
 use Rattle.page_core_escapes.specs.Lengths as escapes
 use Rattle.page_core_escapes.proofs.Characters.{CutsAt, CutsAt-boundary, CutsAt-ascii, first_of, character_len-encode}
+use Rattle.page_core_base.specs.Bytes.{begins_escape}
 use Rattle.page_core_base.specs.Texts.{has_no_control, is_no_control}
-use Rattle.page_roff_parts.specs.laws.Views.{begins_escape}
 use Rattle.page_roff_values.specs.machine.Texts.{IsText}
 
 -- the last byte of a text, or the one before it

@@ -2,6 +2,7 @@
 use Rattle.std.specs.Fmt.{decimal, signed_decimal}
 use Rattle.std.specs.Prelude.{ℕ, List, [], ◌∷◌, ◌==◌, if◌then◌else◌, ◌++◌, drop, zero, suc, ◌-◌, nat_le, ◌&&◌, Option, Some, None, Bool, length, codes, ℤ, pos, unwrap_or, ◌+◌, true, false, nat_lt, get_or, take, ◌*◌}
 use Rattle.std.specs.Str.{bytes_eq, is_utf8}
+use Rattle.page_core_base.specs.Bytes.{ascii}
 use Rattle.page_core_base.specs.Limits.{LINE, EXPAND, name_of}
 use Rattle.page_core_base.specs.Messages.{Message, message_about}
 use Rattle.page_core_base.specs.declared.limits.Limit.TheVariants as limits
@@ -16,6 +17,7 @@ use Rattle.page_roff_parts.specs.declared.parts.Call.TheVariants.{String, Regist
 use Rattle.page_roff_parts.specs.declared.parts.Part.{Part}
 use Rattle.page_roff_parts.specs.declared.parts.Part.TheVariants.{Copied, Called}
 use Rattle.std.specs.Option.{option_or}
+use Rattle.std.specs.Int.{is_in_range}
 
 -- ---- The arguments of the macro that runs: roff(7), "Macro syntax", and the escape `\$`.
 
@@ -24,24 +26,24 @@ abbrev pub begin_first : ℕ → List (List ℕ) → List (List ℕ)
 begin_first byte [] = (byte ∷ []) ∷ []
 begin_first byte (text ∷ texts) = (byte ∷ text) ∷ texts
 
--- the arguments in a list of bytes, where each is followed by a line feed (10)
+-- the arguments in a list of bytes, where each is followed by a line feed
 unfoldable pub arguments_in : List ℕ → List (List ℕ)
 arguments_in [] = []
 arguments_in (byte ∷ bytes) =
-    if byte == 10 then [] ∷ arguments_in bytes else begin_first byte (arguments_in bytes)
+    if byte == ascii "\n" then [] ∷ arguments_in bytes else begin_first byte (arguments_in bytes)
 
 -- the lines of a macro's body, each with a line feed at its end
 abbrev pub lines_in : List ℕ → List (List ℕ)
 lines_in bytes = arguments_in bytes
 
--- each argument with a blank (32) before it; the same with quotes (34) around each
+-- each argument with a blank before it; the same with quotes around each
 abbrev pub spaced : List (List ℕ) → List ℕ
 spaced [] = []
-spaced (argument ∷ arguments) = 32 ∷ (argument ++ spaced arguments)
+spaced (argument ∷ arguments) = ascii " " ∷ (argument ++ spaced arguments)
 
 abbrev pub spaced_quoted : List (List ℕ) → List ℕ
 spaced_quoted [] = []
-spaced_quoted (argument ∷ arguments) = 32 ∷ 34 ∷ (argument ++ (34 ∷ spaced_quoted arguments))
+spaced_quoted (argument ∷ arguments) = ascii " " ∷ ascii "\"" ∷ (argument ++ (ascii "\"" ∷ spaced_quoted arguments))
 
 -- `\$*`: all arguments, separated by blanks
 abbrev pub joined : List (List ℕ) → List ℕ
@@ -57,12 +59,12 @@ argument_at n [] = []
 argument_at zero (argument ∷ arguments) = argument
 argument_at (suc n) (argument ∷ arguments) = argument_at n arguments
 
--- what stands for the character after `\$`: 1 to 9, * (42) or @ (64)
+-- what stands for the character after `\$`: 1 to 9, * or @
 abbrev pub argument_named : ℕ → List (List ℕ) → Option (List ℕ)
 argument_named name arguments =
-    if nat_le 49 name && nat_le name 57 then Some (argument_at (name - 49) arguments)
-    else (if name == 42 then Some (joined arguments)
-    else (if name == 64 then Some (quoted arguments) else None))
+    if is_in_range (ascii "1") (ascii "9") name then Some (argument_at (name - ascii "1") arguments)
+    else (if name == ascii "*" then Some (joined arguments)
+    else (if name == ascii "@" then Some (quoted arguments) else None))
 
 -- the value of an escape `\$` as it is written; another character has none, and outside a macro none has one
 abbrev pub argument_of : List ℕ → Option (List (List ℕ)) → Option (List ℕ)
@@ -168,7 +170,7 @@ adds run s = record s { text = s.text ++ run }
 abbrev pub character_end : List ℕ → ℕ → ℕ
 character_end text zero = zero
 character_end text (suc n) =
-    if nat_le 128 (get_or text (suc n) 0) && nat_lt (get_or text (suc n) 0) 192 then character_end text n else suc n
+    if nat_le 0x80 (get_or text (suc n) 0) && nat_lt (get_or text (suc n) 0) 0xC0 then character_end text n else suc n
 
 -- how many bytes of a text are kept where there is room for a count of them: all, or up to a character's end
 abbrev pub kept : List ℕ → ℕ → ℕ

@@ -1,6 +1,7 @@
 -- Which section a heading begins, by what it prints in ASCII. Source: mdoc(7), "MANUAL STRUCTURE"; mandoc_char(7).
 use Rattle.std.specs.List.{fold}
 use Rattle.std.specs.Prelude.{ℕ, List, codes, false, ◌+◌, ◌*◌, ◌-◌, ◌^◌, min, if◌then◌else◌, ◌==◌, Bool, not, ◌&&◌, true, nat_lt}
+use Rattle.page_core_base.specs.Bytes.{ascii}
 use Rattle.page_core_base.specs.declared.page_settings.Output.TheVariants.{Ascii}
 use Rattle.page_core_escapes.specs.Meanings as escapes
 use Rattle.page_core_escapes.specs.Tokens.{TextToken, white, escaped, tokens_of}
@@ -24,12 +25,12 @@ no_heading = record { text = 0; is_parted = false }
 
 -- a character is printed; white space before it is a blank (32), but at the heading's front
 abbrev pub character_further : HeadingSoFar → ℕ → HeadingSoFar
-character_further h c = record { text = text_and (if h.is_parted && nat_lt 0 h.text then text_and h.text 32 else h.text) c; is_parted = false }
+character_further h c = record { text = text_and (if h.is_parted && nat_lt 0 h.text then text_and h.text (ascii " ") else h.text) c; is_parted = false }
 
 -- the blanks of `\h` are one
 abbrev pub token_further : HeadingSoFar → TextToken → HeadingSoFar
 token_further h (white bytes) = record h { is_parted = true }
-token_further h (escaped bytes (escapes.blanks expression)) = if blank_count expression == 0 then h else character_further h 32
+token_further h (escaped bytes (escapes.blanks expression)) = if blank_count expression == 0 then h else character_further h (ascii " ")
 token_further h token = fold character_further h (token_printed Ascii token)
 
 -- ---- headings
@@ -50,7 +51,7 @@ heading_further part quoted gap text h =
 
 -- what is no text of one word counts as a blank
 abbrev pub heading_broken : PagePart → HeadingSoFar → HeadingSoFar
-heading_broken part h = if is_top_heading part then character_further h 32 else h
+heading_broken part h = if is_top_heading part then character_further h (ascii " ") else h
 
 -- the section that a heading begins
 abbrev pub headed_section : HeadingSoFar → PageSection

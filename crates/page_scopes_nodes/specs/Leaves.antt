@@ -1,5 +1,6 @@
 -- What opens and closes nothing: what each leaf gives, and what it leaves. Source: man(7), mdoc(7), roff(7).
 use Rattle.std.specs.Prelude.{ℕ, List, [], ◌∷◌, ◌==◌, ◌++◌, if◌then◌else◌, nat_lt, ◌||◌, true, length, Option, option_map, unwrap_or, Bool, false, None, Some, ℤ, pos, ◌+ℤ◌, not, ◌&&◌, max}
+use Rattle.page_core_base.specs.Bytes.{begins_sign}
 use Rattle.page_core_base.specs.Rows.{Item, shown}
 use Rattle.page_core_base.specs.declared.cells.Font.{Font}
 use Rattle.page_core_base.specs.declared.note_kinds.NoteKind.TheVariants.{SkipPara, BlankFill}
@@ -79,13 +80,9 @@ given_rows_notes place rows = unwrap_or (option_map (rows_notes place) rows) []
 
 -- ---- `in`: the shift of margins; a number with a sign changes it, one without sets it; none sets it to 0
 
-abbrev pub has_sign : List ℕ → Bool
-has_sign [] = false
-has_sign (byte ∷ bytes) = byte == 43 || byte == 45
-
 abbrev pub given_shift : Option (List ℕ) → ℤ → ℤ
 given_shift None shift = pos 0
-given_shift (Some text) shift = if has_sign text then in_range (shift +ℤ columns_value text) else columns_value text
+given_shift (Some text) shift = if begins_sign text then in_range (shift +ℤ columns_value text) else columns_value text
 
 -- ---- `ft`: fonts; without a name the former one; a name that no font has changes nothing
 

@@ -1,6 +1,7 @@
 //! Requests that change rows (roff(7), "REQUEST REFERENCE").
 
 ghost use Rattle.std.specs.Prelude.{◌≡◌, ◌∷◌, ◌++◌, [], Some, unwrap_or, option_map};
+ghost use Rattle.page_core_base.specs.Bytes.{begins_sign};
 ghost use Rattle.page_core_base.specs.laws.Views.{Came};
 ghost use Rattle.page_core_base.specs.Rows.{shown};
 ghost use Rattle.page_core_base.specs.declared.pieces.Piece.TheVariants.{Space, Break};
@@ -48,7 +49,7 @@ fn give_space<O: PieceOut>(out: &mut O, place: Place, rows: Option<&[u8]>, state
 
 // Whether a number begins with a sign.
 fn has_sign(text: &[u8]) -> bool
-    ensures { result ≡ requests.has_sign text.now }
+    ensures { result ≡ begins_sign text.now }
 {
     match text.first() {
         Some(first) => *first == b'+' || *first == b'-',

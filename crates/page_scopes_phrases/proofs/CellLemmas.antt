@@ -4,9 +4,10 @@ use Rattle.std.specs.List.{prefix_len}
 use Rattle.std.proofs.lemmas.Bool.{cases_Bool}
 use Rattle.std.proofs.lemmas.Bool.Decides.{nat_tests}
 use Rattle.std.proofs.lemmas.List.{drop_more}
+use Rattle.page_core_base.specs.Bytes.{is_white, begins_white}
 use Rattle.page_core_base.specs.laws.Views.{CameUpTo}
 use Rattle.page_core_base.specs.Rows.{Item}
-use Rattle.page_core_escapes.specs.Tokens.{begins_white, is_space, is_white, token_at, token_len, tokens_of}
+use Rattle.page_core_escapes.specs.Tokens.{is_space, token_at, token_len, tokens_of}
 use Rattle.page_core_escapes.proofs.TokenLemmas.{tokens_more, tokens_none}
 use Rattle.page_scopes_phrases.specs.LineWords.{after_tab, before_blanks, before_tab, cell, cells_within, first_part, has_tab, other_cells, other_cells_text, span, span_of, tab_in, white_columns, with_more, tab_step}
 use Rattle.page_sets_lines.specs.laws.Views.{FitsAt}

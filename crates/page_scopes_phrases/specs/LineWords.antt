@@ -1,6 +1,6 @@
 -- Words of a line, those that a macro prints itself, and those in the columns of a list. Source: man(7), mdoc(7).
-use Rattle.std.specs.List.{prefix_len}
 use Rattle.std.specs.Prelude.{Bool, false, option_map, unwrap_or, [], ◌∷◌, Some, Option, None, if◌then◌else◌, ℕ, ◌==◌, position, ◌+◌, List, length, ◌&&◌, is_some, take, drop, ◌-◌, ◌||◌, nat_lt, zero, suc, not, true}
+use Rattle.page_core_base.specs.Bytes.{ascii}
 use Rattle.page_core_base.specs.Rows.{shown, Item}
 use Rattle.page_core_base.specs.declared.cells.Font.{Font}
 use Rattle.page_core_base.specs.declared.note_kinds.NoteKind.TheVariants.{ItemOutside, Unterminated}
@@ -8,7 +8,7 @@ use Rattle.page_core_base.specs.declared.pieces.Piece.TheVariants as pieces
 use Rattle.page_core_base.specs.declared.places.Place.{Place}
 use Rattle.page_core_escapes.specs.Meanings.{tab}
 use Rattle.page_core_escapes.specs.Tokens.{TextToken, white, escaped, token_bytes, is_space, tokens_of}
-use Rattle.page_roff_syntax.specs.Arguments.{is_quoted}
+use Rattle.page_roff_syntax.specs.Arguments.{after_blanks, is_quoted}
 use Rattle.page_roff_syntax.specs.declared.quotes.Argument.{Argument}
 use Rattle.page_roff_syntax.specs.declared.quotes.Quoting.{Quoting}
 use Rattle.page_roff_syntax.specs.declared.quotes.Quoting.TheVariants.{Unclosed}
@@ -82,14 +82,11 @@ span_of quoted text = record { end = before_blanks (tokens_of quoted text); tab 
 -- after a tab, which is one byte or the two of an escape
 abbrev pub after_tab : List ℕ → List ℕ
 after_tab [] = []
-after_tab (byte ∷ bytes) = if byte == 9 then bytes else drop 1 bytes
-
-abbrev pub without_blanks : List ℕ → List ℕ
-without_blanks text = drop (prefix_len (λ byte. byte == 32) text) text
+after_tab (byte ∷ bytes) = if byte == ascii "\t" then bytes else drop 1 bytes
 
 -- blanks beside a tab are nothing
 abbrev pub other_cells_text : CellSpan → List ℕ → List ℕ
-other_cells_text span text = without_blanks (after_tab (drop span.tab text))
+other_cells_text span text = after_blanks (after_tab (drop span.tab text))
 
 abbrev pub other_cells : CellSpan → Phrase (List ℕ) → Phrase (List ℕ)
 other_cells span p =
@@ -134,7 +131,7 @@ text_outcome line p s = if in_columns s.context && not (length p.text == 0) then
 
 abbrev pub white_columns : List ℕ → Formatting → EventOutcome
 white_columns [] s = nothing s
-white_columns (byte ∷ bytes) s = followed_by (if byte == 9 then tab_step s else nothing s) (white_columns bytes)
+white_columns (byte ∷ bytes) s = followed_by (if byte == ascii "\t" then tab_step s else nothing s) (white_columns bytes)
 
 -- ---- Words of a line, and words that a macro prints itself. Source: man(7), mdoc(7); roff(7), "Macro syntax".
 

@@ -3,6 +3,7 @@ ghost use Rattle.std.specs.Prelude.{◌≡◌, ◌≤◌, ◌<◌, ◌==◌, if�
 ghost use Rattle.std.specs.List.{prefix_len};
 ghost use Rattle.page_core_escapes.specs.Tokens.{is_space, token_bytes};
 ghost use Rattle.page_core_escapes.specs.laws.Views.{token_view};
+ghost use Rattle.page_roff_syntax.specs.Arguments.{after_blanks};
 ghost use Rattle.page_scopes_phrases.specs.LineWords as cells;
 ghost use Rattle.page_sets_lines.specs.laws.Views.{FitsAt};
 ghost use Rattle.page_scopes_phrases.specs.laws.Views.{GivesOutcome, phrase_view};
@@ -168,7 +169,7 @@ fn count_blanks(text: &[u8]) -> usize
 
 // A text without the blanks at its front.
 fn without_blanks(text: &[u8]) -> &[u8]
-    ensures { result.now ≡ cells.without_blanks text.now }
+    ensures { result.now ≡ after_blanks text.now }
 {
     &text[count_blanks(text)..]
 }

@@ -7,6 +7,7 @@ use Rattle.std.proofs.lemmas.List.{map-append, take-append-drop}
 use Rattle.std.proofs.lemmas.List.Folds.{length-prefix_len, list_all-append}
 use Rattle.std.proofs.lemmas.Bool.Decides.{nat_tests}
 use Rattle.std.proofs.lemmas.Grind.{common_steps}
+use Rattle.page_core_base.specs.Bytes.{is_white, begins_white}
 use Rattle.page_core_base.specs.Rows.{Item, shown, hyphen, later_pieces, part_pieces, parts_of}
 use Rattle.page_core_base.specs.declared.cells.Cell.{Cell}
 use Rattle.page_core_base.specs.declared.cells.Font.TheVariants.{R}
@@ -15,7 +16,7 @@ use Rattle.page_core_base.specs.declared.pieces.Piece.TheVariants.{Text}
 use Rattle.page_core_base.specs.declared.places.Place.{Place}
 use Rattle.page_core_base.specs.laws.Views.{font_cells, is_kept, is_word, letters_of, word_letters}
 use Rattle.page_core_base.proofs.WordPartLemmas.{joined, joined-parts, parts-full}
-use Rattle.page_core_escapes.specs.Tokens.{begins_white, is_white, plain, token_len}
+use Rattle.page_core_escapes.specs.Tokens.{plain, token_len}
 use Rattle.page_core_escapes.specs.laws.Views.{begins_word}
 use Rattle.page_scopes_words.specs.Words.{body_after, white_after, word_after, at, has_tab, white_cells}
 use Rattle.page_scopes_words.specs.declared.pens.Pen.{Pen}

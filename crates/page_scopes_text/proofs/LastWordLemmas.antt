@@ -3,7 +3,8 @@ use Rattle.std.proofs.Common.{◌≡◌, ℕ, ◌+◌, ◌-◌, ◌≤◌, ◌&&
 use Rattle.std.specs.Prelude.{◌==◌, if◌then◌else◌}
 use Rattle.std.proofs.lemmas.Bool.{cases_Bool}
 use Rattle.std.proofs.lemmas.List.{length-drop, length-take-le}
-use Rattle.page_core_escapes.specs.Tokens.{begins_white, is_white, token_len, tokens_len}
+use Rattle.page_core_base.specs.Bytes.{is_white, begins_white}
+use Rattle.page_core_escapes.specs.Tokens.{token_len, tokens_len}
 use Rattle.page_core_escapes.specs.laws.Views.{begins_word}
 use Rattle.page_scopes_text.proofs.PartedLemmas.{no_word, spaced_more, white_some, words_none}
 use Rattle.page_scopes_text.proofs.TextLemmas.{next_word, not_none}

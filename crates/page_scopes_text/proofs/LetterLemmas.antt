@@ -5,6 +5,7 @@ use Rattle.std.proofs.lemmas.List.{drop_all, length-map, map-append, take_all}
 use Rattle.std.proofs.lemmas.List.Folds.{list_all-append}
 use Rattle.std.proofs.lemmas.Bool.{cases_Bool}
 use Rattle.std.proofs.lemmas.Bool.Decides.{nat_tests}
+use Rattle.page_core_base.specs.Bytes.{is_white}
 use Rattle.page_core_base.specs.Rows.{Item, shown, hyphen, parts_after, parts_of}
 use Rattle.page_core_base.specs.laws.Views.{is_lettered, is_printable, is_printable_ascii, is_word, letters_of, word_letters}
 use Rattle.page_core_base.proofs.WordPartLemmas.{whole-first}
@@ -14,7 +15,7 @@ use Rattle.page_core_base.specs.declared.pieces.Piece.{Piece}
 use Rattle.page_core_base.specs.declared.pieces.Piece.TheVariants.{Char, Text}
 use Rattle.page_core_escapes.specs.Meanings as meanings
 use Rattle.page_core_escapes.specs.Meanings.{Face, is_known}
-use Rattle.page_core_escapes.specs.Tokens.{TextToken, escaped, is_white, plain, prints_itself, quotes, token_at, token_bytes, token_len}
+use Rattle.page_core_escapes.specs.Tokens.{TextToken, escaped, plain, prints_itself, quotes, token_at, token_bytes, token_len}
 use Rattle.page_core_escapes.specs.laws.Views.{begins_word}
 use Rattle.page_scopes_words.specs.Words.{is_glue, token_prints, pen_after, pen_through}
 use Rattle.page_scopes_words.specs.declared.settings.Setting.{Setting}

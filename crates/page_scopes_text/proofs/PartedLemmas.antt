@@ -5,9 +5,10 @@ use Rattle.std.proofs.lemmas.List.Folds.{length-prefix_len}
 use Rattle.std.proofs.lemmas.Bool.{cases_Bool}
 use Rattle.std.proofs.lemmas.Bool.Decides.{nat_tests}
 use Rattle.std.proofs.lemmas.Grind.{common_steps}
+use Rattle.page_core_base.specs.Bytes.{is_white, begins_white}
 use Rattle.page_core_base.specs.laws.Views.{is_word}
 use Rattle.page_core_base.specs.declared.places.Place.{Place}
-use Rattle.page_core_escapes.specs.Tokens.{TextToken, white, plain, begins_white, is_space, is_white, prints_itself, token_at, token_len}
+use Rattle.page_core_escapes.specs.Tokens.{TextToken, white, plain, is_space, prints_itself, token_at, token_len}
 use Rattle.page_core_escapes.specs.laws.Views.{begins_word}
 use Rattle.page_core_escapes.specs.Meanings.{escape_of, read_escape}
 use Rattle.page_core_escapes.specs.Lengths.{escape_len}

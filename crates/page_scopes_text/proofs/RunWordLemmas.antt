@@ -8,12 +8,13 @@ use Rattle.std.proofs.lemmas.List.{drop-drop, get_or-drop, length-drop, length-m
 use Rattle.std.proofs.lemmas.List.Folds.{list_all_at}
 use Rattle.std.proofs.lemmas.List.Sums.{prefix_len-le-length}
 use Rattle.std.proofs.lemmas.Bool.Decides.{nat_tests}
+use Rattle.page_core_base.specs.Bytes.{is_white}
 use Rattle.page_core_base.specs.Rows.{hyphen}
 use Rattle.page_core_base.specs.declared.cells.Cell.{Cell}
 use Rattle.page_core_base.specs.declared.cells.Font.{Font}
 use Rattle.page_core_base.specs.declared.cells.Font.TheVariants.{R}
 use Rattle.page_core_base.proofs.WordPartLemmas.{whole-first}
-use Rattle.page_core_escapes.specs.Tokens.{TextToken, is_white, plain, prints_itself, token_at, token_bytes, token_len}
+use Rattle.page_core_escapes.specs.Tokens.{TextToken, plain, prints_itself, token_at, token_bytes, token_len}
 use Rattle.page_core_escapes.specs.laws.Views.{begins_word}
 use Rattle.page_scopes_words.specs.Fonts.{fonts_after}
 use Rattle.page_scopes_words.specs.declared.fonts.Fonts.{Fonts}

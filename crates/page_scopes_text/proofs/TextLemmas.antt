@@ -2,9 +2,10 @@
 use Rattle.std.proofs.Common.{◌≡◌, ℕ, ◌<◌, ◌≤◌, ◌==◌, Bool, true, false, List, [], ◌++◌, length, take, drop, refl, ap, sym, ◌∙◌, append-nil, append_assoc, arith}
 use Rattle.std.specs.Prelude.{if◌then◌else◌}
 use Rattle.std.proofs.lemmas.Bool.Decides.{nat_tests}
+use Rattle.page_core_base.specs.Bytes.{begins_white}
 use Rattle.page_core_base.specs.Rows.{Item}
 use Rattle.page_core_base.specs.declared.cells.Font.TheVariants.{R}
-use Rattle.page_core_escapes.specs.Tokens.{begins_white, token_len}
+use Rattle.page_core_escapes.specs.Tokens.{token_len}
 use Rattle.page_core_escapes.specs.laws.Views.{begins_word}
 use Rattle.page_scopes_words.specs.Words.{at, has_tab, body_after, has_gap_cells, indented_pen, white_after, word_after, blank_cells}
 use Rattle.page_scopes_text.proofs.PartedLemmas.{no_word, spaced_more, white_some, word_some, words_more, words_none}

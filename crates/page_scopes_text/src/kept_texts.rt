@@ -1,8 +1,8 @@
 //! Words and blanks of a row that is kept as it is, which are given at once where they print themselves (roff(7), "nf").
 
 ghost use Rattle.std.specs.Prelude.{◌≡◌, ℕ, ◌≤◌, ◌<◌, false, true, length, IfSome};
+ghost use Rattle.page_core_base.specs.Bytes.{begins_white};
 ghost use Rattle.page_core_base.specs.laws.Views.{CameUpTo};
-ghost use Rattle.page_core_escapes.specs.Tokens.{begins_white};
 ghost use Rattle.page_core_escapes.specs.laws.Views.{begins_word};
 ghost use Rattle.page_scopes_text.specs.Texts.{words_of};
 ghost use Rattle.page_scopes_text.specs.Texts as texts;

@@ -1,7 +1,8 @@
 //! Where the last word of a text is: white space that no word follows is reported there (roff(7), "LANGUAGE SYNTAX").
 
 ghost use Rattle.std.specs.Prelude.{◌≡◌, ◌≤◌, ◌<◌, ◌+◌, ◌^◌, false, if◌then◌else◌, length};
-ghost use Rattle.page_core_escapes.specs.Tokens.{begins_white, tokens_len};
+ghost use Rattle.page_core_base.specs.Bytes.{begins_white};
+ghost use Rattle.page_core_escapes.specs.Tokens.{tokens_len};
 ghost use Rattle.page_core_escapes.specs.laws.Views.{begins_word};
 ghost use Rattle.page_scopes_text.specs.Texts.{words_of};
 ghost use Rattle.page_scopes_text.specs.Texts as texts;

@@ -1,8 +1,8 @@
 //! Texts: words, and the white space between them (roff(7), "LANGUAGE SYNTAX").
 
 ghost use Rattle.std.specs.Prelude.{◌≡◌, ℕ, ◌≤◌, ◌<◌, ◌==◌, true, false, if◌then◌else◌, length};
+ghost use Rattle.page_core_base.specs.Bytes.{begins_white};
 ghost use Rattle.page_core_base.specs.laws.Views.{Came, CameUpTo};
-ghost use Rattle.page_core_escapes.specs.Tokens.{begins_white};
 ghost use Rattle.page_core_escapes.specs.laws.Views.{begins_word};
 ghost use Rattle.page_scopes_text.specs.laws.Views.{spaced_front};
 ghost use Rattle.page_scopes_text.specs.Texts.{words_of};

@@ -3,6 +3,7 @@ use Rattle.std.specs.List.{list_any}
 use Rattle.std.specs.Option.{option_to_list, option_map_or}
 use Rattle.std.specs.Prelude.{codes, flat_map, ℕ, List, Bool, if◌then◌else◌, [], ◌∷◌, take, ◌==◌, ◌&&◌, Option, None, Some, map, true, false, ℤ, pos, int_div, ◌/◌, negsuc, min, nat_lt, ◌++◌, replicate, is_some, ◌+◌, ◌||◌, length, max, ◌-◌, slice_get}
 use Rattle.std.specs.Str.{chars, is_utf8}
+use Rattle.page_core_base.specs.Bytes.{is_white, ascii}
 use Rattle.page_core_base.specs.Limits.{BLANKS, name_of}
 use Rattle.page_core_base.specs.Messages.{message_about}
 use Rattle.page_core_base.specs.Rows.{Item, noted, shown}
@@ -26,7 +27,6 @@ use Rattle.page_core_numbers.specs.Expressions.{expression_of, messages_at}
 use Rattle.page_core_numbers.specs.declared.scales.Scale.{Scale}
 use Rattle.page_core_numbers.specs.declared.scales.Scale.TheVariants.{En, Vertical, Em}
 use Rattle.page_roff_syntax.specs.Delimiters.{kept}
-use Rattle.page_roff_syntax.specs.LineForms.{is_white}
 use Rattle.page_scopes_words.specs.Fonts.{fonts_after}
 use Rattle.page_scopes_words.specs.declared.pens.Pen.{Pen}
 use Rattle.page_scopes_words.specs.declared.pens.TextStyle.{TextStyle}
@@ -63,15 +63,15 @@ meaning_notes quoted place bytes _ = []
 -- the name of a glyph: in a quoted argument a pair of quotes is one quote. No glyph has a quote in its name: of such a name there is as much
 -- as a message shows
 abbrev pub glyph_name : (quoted : Bool) → List ℕ → List ℕ
-glyph_name quoted name = if quoted && list_any (λ byte. byte == 34) name then take 64 (unpaired name) else name
+glyph_name quoted name = if quoted && list_any (λ byte. byte == ascii "\"") name then take 64 (unpaired name) else name
 
 -- an undefined escape is its character; that of a tab is a tab. A glyph, and the blanks of `\h`, are below
 abbrev pub token_piece : Font → Place → TextToken → Option (Piece (List ℕ))
 token_piece font place (plain bytes) = Some (Text bytes font place)
-token_piece font place (quotes bytes) = Some (Char 34 font place)
+token_piece font place (quotes bytes) = Some (Char (ascii "\"") font place)
 token_piece font place (escaped bytes (meanings.character c)) = Some (Char c font place)
 token_piece font place (escaped bytes meanings.tab) = Some (Tab font place)
-token_piece font place (escaped bytes meanings.blank) = Some (Text (32 ∷ []) font place)
+token_piece font place (escaped bytes meanings.blank) = Some (Text (codes " ") font place)
 token_piece font place (escaped bytes (meanings.undefined c)) = Some (if c == 9 then Tab font place else Char c font place)
 token_piece font place _ = None
 
@@ -87,7 +87,7 @@ plain_printed output cs = flat_map (λ c. (char_printed output c).characters) cs
 
 -- a token; a tab is a blank (32)
 abbrev pub token_printed : Output → TextToken → List ℕ
-token_printed output (white bytes) = replicate (length bytes) 32
+token_printed output (white bytes) = replicate (length bytes) (ascii " ")
 token_printed output (plain bytes) = plain_printed output (characters_of bytes)
 token_printed output (quotes bytes) = codes "\""
 token_printed output (escaped bytes meaning) = printed_escape output meaning
@@ -96,7 +96,7 @@ token_printed output (escaped bytes meaning) = printed_escape output meaning
 
 -- blanks and tabs as cells
 abbrev pub white_cells : Place → List ℕ → List Item
-white_cells place bytes = map (λ byte. shown (if byte == 9 then Tab R place else Text (32 ∷ []) R place)) bytes
+white_cells place bytes = map (λ byte. shown (if byte == ascii "\t" then Tab R place else Text (codes " ") R place)) bytes
 
 abbrev pub has_tab : List ℕ → Bool
 has_tab bytes = list_any (λ byte. byte == 9) bytes
@@ -159,11 +159,11 @@ token_notes quoted place _ = []
 
 -- blanks that are cells
 abbrev pub blank_cells : ℕ → Font → Place → List Item
-blank_cells count font place = replicate count (shown (Text (32 ∷ []) font place))
+blank_cells count font place = replicate count (shown (Text (codes " ") font place))
 
 -- `blank_cells` in one text, where there are any
 abbrev pub blank_text : ℕ → Font → Place → List Item
-blank_text count font place = if count == 0 then [] else shown (Text (replicate count 32) font place) ∷ []
+blank_text count font place = if count == 0 then [] else shown (Text (replicate count (ascii " ")) font place) ∷ []
 
 -- `\h` is as many blanks as it has columns
 abbrev pub blank_count : List ℕ → ℕ
@@ -242,11 +242,11 @@ indented_pen pen bytes = record pen { column = pen.column + length bytes; has_ce
 
 -- a full stop, an exclamation mark or a question mark
 abbrev pub is_end : ℕ → Bool
-is_end byte = byte == 46 || (byte == 33 || byte == 63)
+is_end byte = byte == ascii "." || (byte == ascii "!" || byte == ascii "?")
 
 -- what may be after it: ) ] ' "
 abbrev pub is_closer : ℕ → Bool
-is_closer byte = (byte == 41 || byte == 93) || (byte == 39 || byte == 34)
+is_closer byte = (byte == ascii ")" || byte == ascii "]") || (byte == ascii "'" || byte == ascii "\"")
 
 abbrev pub ends_with : (ℕ → Bool) → List ℕ → Bool
 ends_with holds text = option_map_or holds (slice_get text (length text - 1)) false

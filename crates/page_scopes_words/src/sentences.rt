@@ -1,8 +1,8 @@
 //! Sentences that end with their line (roff(7), "Sentences").
 
 ghost use Rattle.std.specs.Prelude.{◌≡◌, if◌then◌else◌};
+ghost use Rattle.page_core_base.specs.Bytes.{is_white};
 ghost use Rattle.page_roff_syntax.specs.Delimiters.{kept};
-ghost use Rattle.page_roff_syntax.specs.LineForms.{is_white};
 ghost use Rattle.page_scopes_words.specs.Words.{ends_with, is_closer, is_end, ends_sentence};
 
 use page_roff_syntax::{is_white, kept_len};

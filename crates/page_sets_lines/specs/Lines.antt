@@ -1,13 +1,14 @@
 -- Finished lines: the name and the arguments of a control line, and the events of lines that are the same in both sets of macros. Source: man(7), mdoc(7), roff(7).
 use Rattle.std.specs.List.{prefix_len}
 use Rattle.std.specs.Prelude.{ℕ, ◌+◌, min, List, length, drop, max, ◌-◌, take, ◌==◌, Bool, [], ◌∷◌, Option, None, Some, true, false, zero, suc, if◌then◌else◌}
+use Rattle.page_core_base.specs.Bytes.{is_white}
 use Rattle.page_core_base.specs.Texts.{TakenLine}
 use Rattle.page_core_base.specs.declared.cells.Font.{Font}
 use Rattle.page_core_base.specs.declared.lines_taken.Form.{Form}
 use Rattle.page_core_base.specs.declared.lines_taken.Form.TheVariants as forms
 use Rattle.page_core_base.specs.declared.places.Place.{Place}
 use Rattle.page_roff_syntax.specs.Arguments.{arguments}
-use Rattle.page_roff_syntax.specs.LineForms.{is_white, has_word}
+use Rattle.page_roff_syntax.specs.LineForms.{has_word}
 use Rattle.page_roff_syntax.specs.Requests.{request_of}
 use Rattle.page_roff_syntax.specs.declared.quotes.Argument.{Argument}
 use Rattle.page_roff_syntax.specs.declared.quotes.Quoting.{Quoting}

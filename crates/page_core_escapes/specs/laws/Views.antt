@@ -1,8 +1,9 @@
 -- What contracts of the code say by the definitions, and what is proved of these.
 use Rattle.std.specs.Prelude.{ℕ, ◌<◌, ◌≤◌, ⊤, Bool, false, not, List, [], ◌∷◌}
 use Rattle.std.specs.Str.{IsUtf8}
+use Rattle.page_core_base.specs.Bytes.{is_white}
 use Rattle.page_core_escapes.specs.Meanings.{Face, roman, italic, bold, bold_italic, former, unknown, Meaning, glyph, character, tab, blank, blanks, nothing, glue, face, undefined, unsupported, bad}
-use Rattle.page_core_escapes.specs.Tokens.{TextToken, white, plain, quotes, escaped, is_white}
+use Rattle.page_core_escapes.specs.Tokens.{TextToken, white, plain, quotes, escaped}
 use Rattle.page_core_escapes.specs.declared.extents.Extent.{Extent}
 use Rattle.page_core_escapes.specs.declared.extents.Extent.TheVariants.{Whole, QuotedFrom}
 use Rattle.page_core_escapes.specs.declared.meaning.Escape.{Escape}

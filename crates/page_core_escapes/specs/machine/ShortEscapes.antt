@@ -1,6 +1,6 @@
 -- Escapes that are known by few bytes, as `\fB`. Source: roff(7), "Escape sequences".
 use Rattle.std.specs.Prelude.{ℕ, ◌≡◌, ◌<◌, ◌≤◌, Bool, slice_index, List, length}
-use Rattle.page_core_escapes.specs.Lengths.{backslash}
+use Rattle.page_core_base.specs.Bytes.{ascii}
 use Rattle.page_core_escapes.specs.Meanings.{escape_of, Face, Meaning, face}
 
 -- a few bytes at a text's front are an escape, whether a pair of quotes is one character or not
@@ -11,5 +11,5 @@ pub record ShortEscape (text : List ℕ) (meaning : Meaning) (len : ℕ) : Type 
 
 -- they are one that asks for a font
 pub record ShortFont (text : List ℕ) (font : Face) (len : ℕ) : Type 0 where
-  pub backslash : slice_index text 0 ≡ backslash
+  pub backslash : slice_index text 0 ≡ ascii "\\"
   pub escape : ShortEscape text (face font) len

@@ -2,16 +2,17 @@
 -- or the delimiter at its end; and fonts that one letter names.
 use Rattle.std.specs.Prelude.{ℕ, ◌≡◌, ◌+◌, ◌<◌, ◌≤◌, ◌==◌, nat_eq, Bool, not, ◌&&◌, List, [], ◌∷◌, length, take, drop, if◌then◌else◌, Option, Some, None, option_map, option_and_then, unwrap_or}
 use Rattle.std.specs.List.{starts_with}
+use Rattle.page_core_base.specs.Bytes.{ascii}
 use Rattle.page_core_escapes.specs.declared.extents.Extent.{Extent}
 use Rattle.page_core_escapes.specs.declared.extents.Extent.TheVariants.{Whole, QuotedFrom}
 use Rattle.page_core_escapes.specs.declared.quoted.Step.{Step}
 use Rattle.page_core_escapes.specs.declared.quoted.Step.TheVariants.{Passes, Opens, Closes}
-use Rattle.page_core_escapes.specs.Lengths.{backslash, written_len, extent_of, name_len}
+use Rattle.page_core_escapes.specs.Lengths.{written_len, extent_of, name_len}
 use Rattle.page_core_escapes.specs.Meanings.{Face, bare_name, face_of}
 
 -- a byte begins neither an escape nor a delimiter, of which this is the first byte
 abbrev pub is_inner : (delimiter byte : ℕ) → Bool
-is_inner delimiter byte = not (byte == backslash) && not (byte == delimiter)
+is_inner delimiter byte = not (byte == ascii "\\") && not (byte == delimiter)
 
 module _ (pairs : Bool) where
   -- the first character of a text, as it is written
@@ -28,7 +29,7 @@ module _ (pairs : Bool) where
   abbrev pub step_of : (delimiter : List ℕ) → List ℕ → Option Step
   step_of delimiter [] = None
   step_of delimiter (b ∷ bs) =
-      if b == backslash then option_and_then (step_over (b ∷ bs)) (extent_of pairs (b ∷ bs))
+      if b == ascii "\\" then option_and_then (step_over (b ∷ bs)) (extent_of pairs (b ∷ bs))
       else (if starts_with nat_eq (b ∷ bs) delimiter then Some (Closes (length delimiter))
       else Some (Passes 1))
 

@@ -1,6 +1,6 @@
 -- Of the code's own steps, which no public clause cites: an expression that was read up to an operation, and parentheses around it.
 use Rattle.std.specs.Prelude.{ℕ, ◌≡◌, ◌<◌, ◌==◌, ◌||◌, Bool, List, length, fold, Option, ℤ}
-use Rattle.page_core_escapes.specs.Lengths.{parenthesis}
+use Rattle.page_core_base.specs.Bytes.{ascii}
 use Rattle.page_core_numbers.specs.declared.operators.Operator.{Operator}
 use Rattle.page_core_numbers.specs.Expressions.{Read, after_operation, next_operator, operations_at}
 
@@ -17,7 +17,7 @@ pub record Goes (operand_of : List ℕ → Read (Option ℤ)) (all so_far : Read
   pub same : all ≡ done operand_of steps so_far
 
 abbrev pub is_opening : ℕ → Bool
-is_opening b = b == parenthesis
+is_opening b = b == ascii "("
 
 -- nothing changes an expression any longer, be there parentheses around it or not: it ends, or the text does
 abbrev pub is_over : Read ℤ → Bool

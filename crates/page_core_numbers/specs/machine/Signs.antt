@@ -1,17 +1,17 @@
 -- Of the code's own steps, which no public clause cites: what is before an operand, signs and a parenthesis that opens.
 use Rattle.std.specs.Prelude.{ℕ, zero, suc, ◌==◌, List, [], ◌∷◌, if◌then◌else◌, Option, None, Some, ℤ, neg_ℤ}
-use Rattle.page_core_escapes.specs.Lengths.{plus, minus, parenthesis}
+use Rattle.page_core_base.specs.Bytes.{ascii}
 use Rattle.page_core_numbers.specs.declared.scales.Scale.{Scale}
 use Rattle.page_core_numbers.specs.Expressions.{in_range, Read, negated_operand, expression_within}
 
 -- how often the signs at a text's front negate, and what follows them
 abbrev pub minus_count : List ℕ → ℕ
 minus_count [] = 0
-minus_count (b ∷ bs) = if b == minus then suc (minus_count bs) else if b == plus then minus_count bs else 0
+minus_count (b ∷ bs) = if b == ascii "-" then suc (minus_count bs) else if b == ascii "+" then minus_count bs else 0
 
 abbrev pub after_signs : List ℕ → List ℕ
 after_signs [] = []
-after_signs (b ∷ bs) = if b == minus then after_signs bs else if b == plus then after_signs bs else b ∷ bs
+after_signs (b ∷ bs) = if b == ascii "-" then after_signs bs else if b == ascii "+" then after_signs bs else b ∷ bs
 
 abbrev pub negated_value : ℕ → ℤ → ℤ
 negated_value zero n = n
@@ -24,7 +24,7 @@ negated_times (suc times) operand = negated_operand (negated_times times operand
 -- what is after a parenthesis that opens
 abbrev pub after_open : List ℕ → Option (List ℕ)
 after_open [] = None
-after_open (b ∷ bs) = if b == parenthesis then Some bs else None
+after_open (b ∷ bs) = if b == ascii "(" then Some bs else None
 
 -- what reads an expression in parentheses where `room` more may be open
 abbrev pub inside_of : ℕ → Scale → Option (List ℕ → Read ℤ)

@@ -1,10 +1,10 @@
 -- A machine: what one source line of a page gives, and the page's end, as the code takes them. That all lines together give their block tree, and
 -- then this end, is the law `tree_law`, and trust needs no reading of this. Source: roff(7), "LANGUAGE SYNTAX"; mandoc(1), "DIAGNOSTICS".
 use Rattle.std.specs.Prelude.{ℕ, ◌+◌, nat_lt, List, [], ◌∷◌, ◌++◌, length, map, if◌then◌else◌}
+use Rattle.page_core_base.specs.Bytes.{is_white}
 use Rattle.page_core_base.specs.Rows.{Item, noted}
 use Rattle.page_core_base.specs.declared.note_kinds.NoteKind.TheVariants.{TrailingBlank}
 use Rattle.page_roff_syntax.specs.Delimiters.{kept_len}
-use Rattle.page_roff_syntax.specs.LineForms.{is_white}
 use Rattle.page_roff_source.specs.Runs as roff
 use Rattle.page_roff_source.specs.machine.Taking as taking
 use Rattle.page_roff_source.specs.Runs.{SourceLine}

@@ -1,13 +1,14 @@
 -- A machine: the open logical line of a page, as it is known after some of the page's bytes, and what the next byte
 -- does to it. That it gives the logical lines of the page is the law `one_by_one_law`.
 use Rattle.std.specs.Prelude.{ℕ, ◌+◌, Bool, true, false, nat_lt, ◌==◌, List, [], ◌∷◌, ◌++◌, if◌then◌else◌}
+use Rattle.page_core_base.specs.Bytes.{ascii}
 use Rattle.page_roff_decoding.specs.Decoding.{line_limit}
 use Rattle.page_roff_lines.specs.declared.Mode.{Mode}
 use Rattle.page_roff_lines.specs.declared.Mode.TheVariants.{Plain, Backslash, Comment, Dropped}
 use Rattle.page_roff_lines.specs.declared.Mark.{Mark}
 use Rattle.page_roff_lines.specs.declared.Mark.TheVariants.{Unread, First, Second, Absent, Present}
 use Rattle.page_roff_lines.specs.laws.Views.{newline, carriage_return}
-use Rattle.page_roff_lines.specs.Lines.{backslash, quote, hash, KeptLine}
+use Rattle.page_roff_lines.specs.Lines.{KeptLine}
 use Rattle.page_roff_lines.specs.machine.Held.{Held, nothing_held, extend, shorten}
 
 pub record Open : Type 0 where
@@ -51,15 +52,15 @@ put o b m =
 
 -- a byte that follows no backslash
 unfoldable pub put_plain : Open → ℕ → Open
-put_plain o b = put o b (if b == backslash then Backslash else Plain)
+put_plain o b = put o b (if b == ascii "\\" then Backslash else Plain)
 
 -- how the byte after these two is read: a carriage return may still turn out to belong to the line's end
 unfoldable pub pair_mode : ℕ → Mode
-pair_mode b = if b == quote then Comment else (if b == carriage_return then Backslash else Plain)
+pair_mode b = if b == ascii "\"" then Comment else (if b == carriage_return then Backslash else Plain)
 
 -- the byte after a backslash
 unfoldable pub put_pair : Open → ℕ → Open
-put_pair o b = if b == hash then record o { text = shorten o.text; mode = Dropped } else put o b (pair_mode b)
+put_pair o b = if b == ascii "#" then record o { text = shorten o.text; mode = Dropped } else put o b (pair_mode b)
 
 -- a byte that is no line feed
 unfoldable pub put_in : Mode → Bool → Open → ℕ → Open

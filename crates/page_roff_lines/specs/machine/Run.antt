@@ -2,6 +2,7 @@
 use Rattle.std.specs.Prelude.{◌≡◌, ℕ, ◌+◌, ◌-◌, ◌<◌, ◌≤◌, Bool, true, false, not, ◌&&◌, ◌==◌, List, [], length, slice_index}
 use Rattle.std.specs.List.{list_all}
 use Rattle.memchr.specs.Find.{is_byte, is_byte2}
+use Rattle.page_core_base.specs.Bytes.{ascii}
 use Rattle.page_core_base.specs.laws.Views.{is_backslash, is_key, key_at}
 use Rattle.page_roff_decoding.specs.Decoding.{is_printable}
 use Rattle.page_roff_lines.specs.declared.Mode.{Mode}
@@ -9,13 +10,12 @@ use Rattle.page_roff_lines.specs.declared.Mode.TheVariants.{Plain, Backslash, Dr
 use Rattle.page_roff_lines.specs.declared.Mark.{Mark}
 use Rattle.page_roff_lines.specs.declared.Mark.TheVariants.{Absent, Present}
 use Rattle.page_roff_lines.specs.laws.Views.{newline, carriage_return}
-use Rattle.page_roff_lines.specs.Lines.{backslash, quote, hash}
 use Rattle.page_roff_lines.specs.machine.Held.{extend}
 use Rattle.page_roff_lines.specs.machine.Open.{Open, open_after, restart, whole_lines}
 
 -- the byte ends a run
 abbrev pub ends_run : Mode → ℕ → Bool
-ends_run Plain b = is_byte2 newline backslash b
+ends_run Plain b = is_byte2 newline (ascii "\\") b
 ends_run Backslash b = true
 ends_run _ b = is_byte newline b
 
@@ -27,12 +27,12 @@ is_settled _ = false
 
 -- the byte after a backslash stays with it, and begins no comment
 abbrev pub stays : ℕ → Bool
-stays b = is_printable b && (not (b == quote) && not (b == hash))
+stays b = is_printable b && (not (b == ascii "\"") && not (b == ascii "#"))
 
 -- some bytes begin with a backslash and a byte that stays with it
 pub record BeginsPair (bytes : List ℕ) : Type 0 where
   pub long : 2 ≤ length bytes
-  pub escapes : slice_index bytes 0 ≡ backslash
+  pub escapes : slice_index bytes 0 ≡ ascii "\\"
   pub stays : stays (slice_index bytes 1) ≡ true
 
 -- the byte after a backslash begins no comment, no end of a block and no interpolation with it, and is no backslash

@@ -1,2 +1,0 @@
--- What is proved and said of the definitions. Trust needs no reading of it.
-pub mod Views
