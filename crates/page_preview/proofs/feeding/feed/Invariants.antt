@@ -1,5 +1,5 @@
 use Rattle.std.proofs.Common.{◌≡◌, ◌+◌, ◌≤◌, false, length}
-use Rattle.page_outline.proofs.feeding.feed.Given as goal
+use Rattle.page_preview.proofs.feeding.feed.Given as goal
 
 -- no line waits, and the part before this place came
 abbrev pub invariant-parts : goal.invariant-parts
