@@ -2,9 +2,10 @@
 use Rattle.std.specs.Char.{is_ascii_alphabetic}
 use Rattle.std.specs.Prelude.{ℕ, List, Bool, ◌==◌, [], ◌∷◌, if◌then◌else◌, length, false, ◌&&◌, ◌++◌}
 use Rattle.page_core_base.specs.Bytes.{ascii}
-use Rattle.page_core_base.specs.Messages.{Message}
+use Rattle.page_core_base.specs.Messages.{Message, message_about}
 use Rattle.page_core_base.specs.declared.cells.Cell.{Cell}
 use Rattle.page_core_base.specs.declared.cells.Font.{Font}
+use Rattle.page_core_base.specs.declared.note_kinds.NoteKind.{NoteKind}
 use Rattle.page_core_base.specs.declared.pieces.Piece.{Piece}
 use Rattle.page_core_base.specs.declared.pieces.Piece.TheVariants.{Text, Split}
 use Rattle.page_core_base.specs.declared.places.Place.{Place}
@@ -41,6 +42,10 @@ is_blank_row row = length (trimmed row.cells) == 0
 pub data Item : Type 0 where
   shown : Piece (List ℕ) → Item
   noted : Message → Item
+
+-- a message about a place
+abbrev pub says : NoteKind → Place → List ℕ → Item
+says kind place detail = noted (message_about kind place detail)
 
 -- ---- Words of a text, each after one blank, as the pieces that they are, and the parts of a word between which a row may end.
 -- Source: roff(7), "Filling and adjusting".

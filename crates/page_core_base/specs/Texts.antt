@@ -1,5 +1,6 @@
 -- The text of a line, and a finished line as a set of macros reads it. Source: roff(7), "Language syntax".
 use Rattle.std.specs.Prelude.{ℕ, Bool, not, ◌&&◌, ◌||◌, ◌==◌, nat_lt, true, List, [], ◌∷◌, ◌≤◌, ◌≡◌, length, IsUtf8, if◌then◌else◌}
+use Rattle.std.specs.Str.{chars, is_utf8}
 use Rattle.page_core_base.specs.Bytes.{ascii}
 use Rattle.page_core_base.specs.Limits.{LINE}
 use Rattle.page_core_base.specs.declared.lines_taken.Form.{Form}
@@ -20,6 +21,10 @@ pub record IsLine (text : List ℕ) : Type 0 where
   pub utf8 : IsUtf8 text
   pub bounded : length text ≤ LINE
   pub plain : has_no_control 0 text ≡ true
+
+-- the characters of a text; bytes that are not UTF-8 have none
+unfoldable pub characters_of : List ℕ → List ℕ
+characters_of bytes = if is_utf8 bytes then chars bytes else []
 
 -- what a quoted argument says: a pair of quotes is one quote
 abbrev pub unpaired : List ℕ → List ℕ

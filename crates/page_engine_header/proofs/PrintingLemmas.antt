@@ -6,7 +6,9 @@ use Rattle.std.proofs.lemmas.List.{replicate-append-replicate}
 use Rattle.std.proofs.lemmas.List.Sums.{sum_by-append}
 use Rattle.std.proofs.lemmas.Str.{chars-nil, chars_past_char, encodes-chars, length-le-encodes, chars-IsAscii, IsUtf8-from_ascii}
 use Rattle.std.proofs.lemmas.Str.Ascii.{IsAscii-nil, IsAscii-cons}
+use Rattle.page_core_base.proofs.CharacterLemmas.{characters_of-text}
 use Rattle.page_core_base.specs.Rows.{shown}
+use Rattle.page_core_base.specs.Texts.{characters_of}
 use Rattle.page_core_base.specs.laws.Views.{is_printable, is_printable_ascii}
 use Rattle.page_core_base.specs.declared.pieces.Piece.TheVariants.{Char}
 use Rattle.page_core_base.specs.declared.cells.Font.{Font}
@@ -16,10 +18,9 @@ use Rattle.page_core_escapes.specs.Tokens.{TextToken, tokens_of, plain}
 use Rattle.page_core_numbers.specs.Columns.{characters_columns}
 use Rattle.page_core_tables.proofs.PrintedLemmas.{char_columns-printable}
 use Rattle.page_core_tables.specs.Glyphs.{Printing, char_columns, char_printed}
-use Rattle.page_scopes_words.proofs.CharacterLemmas.{characters_of-text}
 use Rattle.page_scopes_words.specs.declared.fonts.Fonts.{Fonts}
 use Rattle.page_scopes_words.specs.Fonts.{roman_fonts, token_fonts}
-use Rattle.page_scopes_words.specs.Words.{characters_of, plain_printed, token_printed}
+use Rattle.page_scopes_words.specs.Words.{plain_printed, token_printed}
 use Rattle.page_engine_header.specs.Header.{in_font, tokens_columns, tokens_items, name_tokens}
 use Rattle.page_engine_header.specs.laws.Views.{fonts_after}
 

@@ -4,7 +4,7 @@ use Rattle.std.specs.Prelude.{ℕ, List, [], if◌then◌else◌, flat_map, leng
 use Rattle.page_core_base.specs.Bytes.{ascii}
 use Rattle.page_core_base.specs.Limits.{FIELD, CELLS}
 use Rattle.page_core_base.specs.Messages.{text_front}
-use Rattle.page_core_base.specs.Rows.{Item, shown}
+use Rattle.page_core_base.specs.Rows.{Item, shown, says}
 use Rattle.page_core_base.specs.declared.cells.Font.{Font}
 use Rattle.page_core_base.specs.declared.cells.Font.TheVariants.{R}
 use Rattle.page_core_base.specs.declared.note_kinds.NoteKind.{NoteKind}
@@ -19,7 +19,7 @@ use Rattle.page_roff_syntax.specs.declared.quotes.Argument.{Argument}
 use Rattle.page_sets_names.specs.declared.macro_names.Prologue.{Prologue}
 use Rattle.page_sets_names.specs.declared.macro_names.Prologue.TheVariants.{TH, Dd, Dt, Os}
 use Rattle.page_scopes_words.specs.Fonts.{token_fonts, roman_fonts}
-use Rattle.page_scopes_words.specs.Words.{says, token_printed}
+use Rattle.page_scopes_words.specs.Words.{token_printed}
 use Rattle.page_scopes_words.specs.declared.fonts.Fonts.{Fonts}
 use Rattle.page_engine_header.specs.declared.fields.Fields.{Fields}
 use Rattle.page_engine_header.specs.declared.headers.Measure.{Measure}
@@ -67,7 +67,7 @@ or_else text other = if length text == 0 then other else text
 
 -- ---- words that are one field
 
--- arguments with a blank (32) before each, as far as there is room for them
+-- arguments with a blank before each, as far as there is room for them
 abbrev pub words_text : ℕ → List (Argument (List ℕ)) → List ℕ
 words_text room [] = []
 words_text room (argument ∷ others) =

@@ -1,7 +1,7 @@
 -- The body of a page between its header and its footer: its language, its title, and the events of each line. Source: man(7), mdoc(7).
 use Rattle.std.specs.Prelude.{ℕ, List, [], ◌∷◌, Bool, if◌then◌else◌, codes, ◌||◌, Option, None, Some, is_some, true, false, ◌==◌, ◌++◌, unwrap_or}
 use Rattle.std.specs.Str.{bytes_eq}
-use Rattle.page_core_base.specs.Rows.{Item, shown}
+use Rattle.page_core_base.specs.Rows.{Item, shown, says}
 use Rattle.page_core_base.specs.Texts.{TakenLine}
 use Rattle.page_core_base.specs.declared.note_kinds.NoteKind.TheVariants.{LateMacro}
 use Rattle.page_core_base.specs.declared.page_settings.Language.{Language}
@@ -19,7 +19,7 @@ use Rattle.page_sets.specs.Mdoc.{either_indent}
 use Rattle.page_sets.specs.declared.either.Either.{Either}
 use Rattle.page_sets.specs.declared.either.Either.TheVariants.{Man, Mdoc}
 use Rattle.page_sets.specs.declared.either.Either.TheVariants as sets
-use Rattle.page_scopes_words.specs.Words.{says, at}
+use Rattle.page_scopes_words.specs.Words.{at}
 use Rattle.page_scopes.specs.Bodies.{PageEdge}
 use Rattle.page_scopes.specs.Bodies as scopes
 use Rattle.page_engine_header.specs.Header.{cut_items, fields_after, footer_row, no_fields}

@@ -2,7 +2,7 @@
 -- Source: man(7), "MACRO OVERVIEW"; mdoc(7), "MACRO REFERENCE"; mandoc(1), "ASCII Output" and "DIAGNOSTICS".
 use Rattle.std.specs.Prelude.{ℕ, List, [], ◌∷◌, flat_map, Bool, zero, suc, drop, map, if◌then◌else◌, ◌++◌}
 use Rattle.page_core_base.specs.Messages.{Message}
-use Rattle.page_core_base.specs.Rows.{Item, noted}
+use Rattle.page_core_base.specs.Rows.{Item, noted, says}
 use Rattle.page_core_base.specs.declared.note_kinds.NoteKind.TheVariants.{NoBody}
 use Rattle.page_core_base.specs.declared.places.Place.{Place}
 use Rattle.page_sets_names.specs.declared.macro_names.Prologue.{Prologue as PrologueName}
@@ -19,7 +19,7 @@ use Rattle.page_scopes_tree.specs.declared.nestings.Scope.{Scope}
 use Rattle.page_scopes_tree.specs.declared.placements.Obstacle.{Obstacle}
 use Rattle.page_scopes_tree.specs.declared.placements.Placement.{Placement}
 use Rattle.page_scopes_tree.specs.declared.placements.Placement.TheVariants as placements
-use Rattle.page_scopes_words.specs.Words.{at, says}
+use Rattle.page_scopes_words.specs.Words.{at}
 use Rattle.page_scopes_phrases.specs.Phrases.{EventOutcome}
 use Rattle.page_scopes_nodes.specs.Begins.{begun_by}
 use Rattle.page_scopes_nodes.specs.Ends as ends

@@ -7,13 +7,14 @@ use Rattle.std.proofs.lemmas.Bool.{cases_Bool}
 use Rattle.std.proofs.lemmas.List.{map-append}
 use Rattle.std.proofs.Math.Seq.{take-length}
 use Rattle.page_core_base.specs.Rows.{Item, noted, shown}
+use Rattle.page_core_base.specs.Texts.{characters_of}
 use Rattle.page_core_base.specs.declared.cells.Font.{Font}
 use Rattle.page_core_base.specs.declared.page_settings.Output.TheVariants.{Ascii}
 use Rattle.page_core_base.specs.declared.places.Place.{Place}
 use Rattle.page_core_base.specs.declared.pieces.Piece.{Piece}
 use Rattle.page_core_base.specs.declared.pieces.Piece.TheVariants.{Text, Glyph, Char, Split, Para, Indent, Literal, Tag, Heading}
 use Rattle.page_core_tables.specs.Glyphs.{char_printed, glyph_printed}
-use Rattle.page_scopes_words.specs.Words.{characters_of, plain_printed, token_printed}
+use Rattle.page_scopes_words.specs.Words.{plain_printed, token_printed}
 use Rattle.page_engine_header.specs.Header.{in_font, tokens_items}
 use Rattle.page_core_escapes.specs.Tokens.{TextToken}
 use Rattle.page_scopes_words.specs.Fonts.{token_fonts}

@@ -4,11 +4,12 @@
 use Rattle.std.specs.Prelude.{ℕ, Bool, true, false, ◌==◌, nat_lt, if◌then◌else◌, List, [], ◌∷◌, ◌++◌, take, map, filter, codes, Option, Some, None, option_map}
 use Rattle.std.specs.Str.{bytes_eq}
 use Rattle.page_core_base.specs.Rows.{Item, shown, noted}
+use Rattle.page_core_base.specs.Texts.{characters_of}
 use Rattle.page_core_base.specs.declared.page_settings.Output.TheVariants.{Ascii}
 use Rattle.page_core_base.specs.declared.pieces.Piece.{Piece}
 use Rattle.page_core_base.specs.declared.pieces.Piece.TheVariants.{Text, Glyph, Char, Tab, Blank, Glue, Split, Break, RowEnd, Para, Space, Indent, Literal, Tag, TagEnd, Heading, Column}
 use Rattle.page_core_tables.specs.Glyphs.{char_printed, glyph_printed}
-use Rattle.page_scopes_words.specs.Words.{characters_of, plain_printed}
+use Rattle.page_scopes_words.specs.Words.{plain_printed}
 
 -- ---- signs
 
@@ -25,7 +26,7 @@ pub data Sign : Type 0 where
 abbrev pub characters : List ℕ → List Sign
 characters cs = map character (filter (λ c. nat_lt c 128) cs)
 
--- what a piece prints in ASCII is text, without its font, and a tab is a blank (32); where it puts blanks or ends a row, there is a gap. A heading in a margin
+-- what a piece prints in ASCII is text, without its font, and a tab is a blank; where it puts blanks or ends a row, there is a gap. A heading in a margin
 -- is text, which ends a row
 abbrev pub piece_signs : (margin : ℕ) → Piece (List ℕ) → List Sign
 piece_signs margin (Text bytes font place) = characters (plain_printed Ascii (characters_of bytes))
@@ -59,7 +60,7 @@ signs_of margin (shown piece ∷ items) = piece_signs margin piece ++ signs_of (
 
 -- ---- texts
 
--- the text after a character: gaps, as many as there are, are one blank (32) before the next character
+-- the text after a character: gaps, as many as there are, are one blank before the next character
 abbrev pub text_after : (is_apart : Bool) → List Sign → List ℕ
 text_after is_apart [] = []
 text_after true (character c ∷ signs) = 32 ∷ c ∷ text_after false signs

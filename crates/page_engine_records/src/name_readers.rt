@@ -1,9 +1,10 @@
 //! A reader of pieces, which keeps the text of a page's section NAME (man(7), `SH`; mdoc(7), `Sh`).
 
 ghost use Rattle.std.specs.Prelude.{◌≡◌, ℕ, List, true, IfOk, chars, refl};
+ghost use Rattle.page_core_base.specs.Texts.{characters_of};
 ghost use Rattle.page_core_base.specs.laws.Views.{piece_of};
 ghost use Rattle.page_core_tables.specs.laws.Views.{printed_view};
-ghost use Rattle.page_scopes_words.specs.Words.{characters_of, plain_printed};
+ghost use Rattle.page_scopes_words.specs.Words.{plain_printed};
 ghost use Rattle.page_engine_records.specs.machine.NameTexts.{has_ended, read, reader_at, taken, with_character, with_characters, with_heading, with_paragraph, with_top_heading};
 ghost use Rattle.page_engine_records.specs.machine.ReaderSinks.{reader-items, reader-messages, reader-notes, reader-well};
 

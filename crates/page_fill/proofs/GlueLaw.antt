@@ -2,6 +2,8 @@
 use Rattle.std.proofs.Common.{◌≡◌, ℕ, ◌<◌, ◌==◌, Bool, true, false, not, ◌&&◌, List, [], ◌∷◌, ◌++◌, length, IsUtf8, refl, sym, ap, ◌∙◌, arith, append_assoc, append-nil}
 use Rattle.std.proofs.lemmas.Bool.Decides.{nat_tests}
 use Rattle.std.proofs.lemmas.Str.{chars-append, IsUtf8-append}
+use Rattle.page_core_base.proofs.CharacterLemmas.{characters_of-text}
+use Rattle.page_core_base.specs.Texts.{characters_of}
 use Rattle.page_core_base.specs.declared.cells.Font.{Font}
 use Rattle.page_core_base.specs.declared.page_settings.Output.{Output}
 use Rattle.page_core_base.specs.declared.pieces.Piece.TheVariants.{Text, Blank, Glue}
@@ -10,8 +12,7 @@ use Rattle.page_core_base.specs.Rows.{Laid, nothing, seq, Item, shown}
 use Rattle.page_fill.specs.declared.edges.FillEdge.{FillEdge}
 use Rattle.page_fill.specs.declared.edges.OpenWord.{OpenWord}
 use Rattle.page_fill.specs.Words.{begun_word, text_content, RowWords, word_of, words_of, word_after_items, going_on, next_edge, words_laid}
-use Rattle.page_fill_rows.specs.OpenRows.{characters_of}
-use Rattle.page_fill_rows.proofs.CharacterLemmas.{characters_of-text, chars-empty}
+use Rattle.page_fill_rows.proofs.CharacterLemmas.{chars-empty}
 use Rattle.page_fill.specs.Filled.{CellOrNote}
 use Rattle.page_fill.specs.Filling.{words, groups, groups_laid, filled}
 

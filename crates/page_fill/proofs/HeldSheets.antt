@@ -1,6 +1,7 @@
 -- The places of the open row's last word lie within the row, at each edge that a page comes to.
 use Rattle.std.proofs.Common.{ℕ, zero, suc, Bool, true, false, not, ◌&&◌, List, [], ◌∷◌, replicate, Option, None, Some, inl, inr, arith, length-append, length-drop, lit≤}
 use Rattle.std.proofs.lemmas.Bool.{cases_Bool}
+use Rattle.page_core_base.specs.Texts.{characters_of}
 use Rattle.page_core_base.specs.declared.cells.Cell.{Cell}
 use Rattle.page_core_base.specs.declared.cells.Font.{Font}
 use Rattle.page_core_base.specs.declared.page_settings.Output.{Output}
@@ -11,7 +12,7 @@ use Rattle.page_core_base.specs.declared.places.Place.{Place}
 use Rattle.page_core_tables.specs.Glyphs.{char_printed, glyph_printed}
 use Rattle.page_fill.specs.declared.edges.OpenTag.{OpenTag}
 use Rattle.page_fill.specs.declared.edges.FillEdge.{FillEdge}
-use Rattle.page_fill_rows.specs.OpenRows.{Sheet, fresh, characters_of}
+use Rattle.page_fill_rows.specs.OpenRows.{Sheet, fresh}
 use Rattle.page_fill_cells.specs.Cells.{blank, cells_of}
 use Rattle.page_fill_rows.specs.machine.Sheets.{letter, letters, space, spaces, new_word, opens, broken, empty_rows}
 use Rattle.page_fill_rows.specs.laws.Views.{character, characters, glyph, IsHeld}

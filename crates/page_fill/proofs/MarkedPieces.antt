@@ -2,6 +2,7 @@
 use Rattle.std.proofs.Common.{◌≡◌, ℕ, zero, suc, ◌==◌, Bool, true, false, not, ◌&&◌, ◌||◌, List, [], ◌∷◌, ◌++◌, length, replicate, map, Option, None, Some, inl, inr, refl, sym, ap, ◌∙◌, append-nil, arith}
 use Rattle.std.specs.Prelude.{if◌then◌else◌}
 use Rattle.std.proofs.lemmas.Bool.{cases_Bool}
+use Rattle.page_core_base.specs.Texts.{characters_of}
 use Rattle.page_core_base.specs.declared.cells.Cell.{Cell}
 use Rattle.page_core_base.specs.declared.cells.Font.{Font}
 use Rattle.page_core_base.specs.declared.page_settings.Output.{Output}
@@ -11,7 +12,7 @@ use Rattle.page_core_base.specs.declared.places.Place.{Place}
 use Rattle.page_core_base.specs.Rows.{Laid, nothing, join, seq}
 use Rattle.page_core_tables.specs.Glyphs.{Printing, char_printed, glyph_printed}
 use Rattle.page_fill.specs.declared.edges.OpenWord.{OpenWord}
-use Rattle.page_fill_rows.specs.OpenRows.{Sheet, over, with_notes, characters_of, unknown_notes}
+use Rattle.page_fill_rows.specs.OpenRows.{Sheet, over, with_notes, unknown_notes}
 use Rattle.page_fill_cells.specs.Cells.{blank, cell_of}
 use Rattle.page_fill_rows.specs.machine.Sheets.{letter, letters, space, spaces, new_word, opens}
 use Rattle.page_fill_rows.specs.laws.Views.{put, character, characters, glyph}

@@ -1,6 +1,7 @@
 -- Marks, between the steps of filling and the definition in words: words are written out as a list of them. Here a word begins, here is a blank
 -- before it, here is a cell of it.
 use Rattle.std.specs.Prelude.{ℕ, Bool, true, false, not, ◌&&◌, ◌||◌, ◌==◌, List, [], ◌∷◌, ◌++◌, length, map, replicate, if◌then◌else◌}
+use Rattle.page_core_base.specs.Texts.{characters_of}
 use Rattle.page_core_base.specs.declared.cells.Cell.{Cell}
 use Rattle.page_core_base.specs.declared.cells.Font.{Font}
 use Rattle.page_core_base.specs.declared.page_settings.Output.{Output}
@@ -10,7 +11,7 @@ use Rattle.page_core_base.specs.declared.places.Place.{Place}
 use Rattle.page_core_base.specs.Messages.{Message}
 use Rattle.page_core_tables.specs.Glyphs.{Printing, char_printed, glyph_printed}
 use Rattle.page_fill_cells.specs.Cells.{blank, cell_of, cells_of}
-use Rattle.page_fill_rows.specs.OpenRows.{characters_of, unknown_notes}
+use Rattle.page_fill_rows.specs.OpenRows.{unknown_notes}
 use Rattle.page_fill.specs.declared.edges.OpenWord.{OpenWord}
 use Rattle.page_fill.specs.Words.{tab_notes, after_cell}
 

@@ -4,6 +4,7 @@ use Rattle.std.proofs.Math.Bool.{and-false}
 use Rattle.std.proofs.lemmas.Bool.{cases_Bool}
 use Rattle.std.proofs.lemmas.Bool.Decides.{nat_tests}
 use Rattle.std.proofs.lemmas.List.{length-map, length-replicate}
+use Rattle.page_core_base.specs.Texts.{characters_of}
 use Rattle.page_core_base.specs.declared.cells.Cell.{Cell}
 use Rattle.page_core_base.specs.declared.cells.Font.{Font}
 use Rattle.page_core_base.specs.declared.page_settings.Output.{Output}
@@ -15,7 +16,7 @@ use Rattle.page_core_tables.specs.Glyphs.{char_printed, known}
 use Rattle.page_fill.specs.declared.edges.FillEdge.{FillEdge}
 use Rattle.page_fill.specs.declared.edges.OpenWord.{OpenWord}
 use Rattle.page_fill.specs.Words.{begun_word, cell_content, text_content, RowWords, words_of, word_after_items, next_edge, going_on}
-use Rattle.page_fill_rows.specs.OpenRows.{Sheet, characters_of}
+use Rattle.page_fill_rows.specs.OpenRows.{Sheet}
 use Rattle.page_fill_cells.specs.Cells.{columns, blank, cell_of, cells_of}
 use Rattle.page_core_base.specs.laws.Views.{is_printable, is_printable_ascii}
 use Rattle.page_fill_rows.proofs.PlainLemmas.{characters_of-plain, columns-plain, first-plain, rest-plain}

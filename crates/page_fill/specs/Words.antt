@@ -4,6 +4,7 @@ use Rattle.page_core_base.specs.Bytes.{ascii}
 use Rattle.page_core_base.specs.Messages.{Message, message_about}
 use Rattle.page_core_base.specs.Rows.{Item, Laid, seq}
 use Rattle.page_core_base.specs.Rows as items
+use Rattle.page_core_base.specs.Texts.{characters_of}
 use Rattle.page_core_base.specs.declared.cells.Cell.{Cell}
 use Rattle.page_core_base.specs.declared.cells.Font.{Font}
 use Rattle.page_core_base.specs.declared.note_kinds.NoteKind.TheVariants as notes
@@ -16,7 +17,7 @@ use Rattle.page_core_base.specs.declared.pieces.TagForm.TheVariants as forms
 use Rattle.page_core_base.specs.declared.places.Place.{Place}
 use Rattle.page_core_tables.specs.Glyphs.{Printing, char_printed, glyph_printed}
 use Rattle.page_fill_cells.specs.Cells.{cells_of, cell_of, blank}
-use Rattle.page_fill_rows.specs.OpenRows.{fresh, unknown_notes, characters_of, Sheet, over}
+use Rattle.page_fill_rows.specs.OpenRows.{fresh, unknown_notes, Sheet, over}
 use Rattle.page_fill.specs.Filled.{CellOrNote, shown, noted, RowWord, rest_of_word, filling}
 use Rattle.page_fill.specs.declared.edges.FillEdge.{FillEdge}
 use Rattle.page_fill.specs.declared.edges.OpenTag.{OpenTag}

@@ -2,10 +2,10 @@
 
 ghost use Rattle.std.specs.Prelude.{◌≡◌, ◌≤◌, replicate, Some, true, []};
 ghost use Rattle.std.specs.Str.{chars};
+ghost use Rattle.page_core_base.specs.Texts.{characters_of};
 ghost use Rattle.page_core_base.specs.laws.Views.{CameRows, LaysOut};
 ghost use Rattle.page_core_base.specs.declared.blank_texts.TheConstants.{BLANK_TEXT};
 ghost use Rattle.page_core_base.specs.declared.pieces.Piece.TheVariants.{Text};
-ghost use Rattle.page_fill_rows.specs.OpenRows.{characters_of};
 ghost use Rattle.page_fill_rows.specs.machine.Plain as plain;
 ghost use Rattle.page_fill.specs.Words.{counted_tag};
 ghost use Rattle.page_fill.specs.machine.Fill as fill;

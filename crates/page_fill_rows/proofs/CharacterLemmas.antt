@@ -1,17 +1,15 @@
 -- Characters one by one.
-use Rattle.std.proofs.Common.{◌≡◌, ℕ, ◌+◌, ◌<◌, ◌≤◌, IsUtf8, chars, encode_utf8, encode_utf8_all, ◌==◌, List, [], ◌∷◌, ◌++◌, length, get_or, take, drop, refl, sym, ap, arith, inl, inr}
+use Rattle.std.proofs.Common.{◌≡◌, ℕ, ◌+◌, ◌<◌, ◌≤◌, IsUtf8, chars, encode_utf8, encode_utf8_all, ◌==◌, List, [], ◌∷◌, ◌++◌, length, get_or, take, drop, refl, sym, ap, arith}
 use Rattle.std.proofs.lemmas.List.{drop_more, drop_all, map-append, take-append-drop}
-use Rattle.std.proofs.lemmas.Bool.{cases_Bool}
 use Rattle.std.proofs.lemmas.Bool.Decides.{nat_tests}
-use Rattle.std.specs.Str.{is_utf8}
-use Rattle.std.proofs.lemmas.Str.{chars-nil, chars_past_char, encodes-chars, is_utf8-from_IsUtf8, IsUtf8-from_is_utf8}
+use Rattle.std.proofs.lemmas.Str.{chars-nil, chars_past_char, encodes-chars}
 use Rattle.page_core_base.specs.declared.cells.Cell.{Cell}
 use Rattle.page_core_base.specs.declared.cells.Font.{Font}
 use Rattle.page_core_base.specs.declared.places.Place.{Place}
 use Rattle.page_core_base.specs.declared.page_settings.Output.{Output}
 use Rattle.page_core_base.specs.Rows.{join, nothing}
 use Rattle.page_core_base.specs.laws.Views.{join_assoc}
-use Rattle.page_fill_rows.specs.OpenRows.{Sheet, characters_of}
+use Rattle.page_fill_rows.specs.OpenRows.{Sheet}
 use Rattle.page_fill_rows.specs.machine.Sheets.{letter, letters}
 use Rattle.page_fill_cells.specs.Cells.{cell_of, cells_of}
 use Rattle.page_fill_rows.specs.laws.Views.{character, characters}
@@ -62,14 +60,6 @@ unfolding characters
 characters-done output s bytes font place h = rw (chars_of_empty bytes h) refl
 
 -- ---- the characters of a text
-
-pub characters_of-text : (bytes : List ℕ) → IsUtf8 bytes → characters_of bytes ≡ chars bytes
-unfolding characters_of
-characters_of-text bytes u = rw (is_utf8-from_IsUtf8 bytes u) refl
-
-pub characters_of-none : (bytes : List ℕ) → ¬ (IsUtf8 bytes) → characters_of bytes ≡ []
-unfolding characters_of
-characters_of-none bytes u = elim (cases_Bool (is_utf8 bytes)) [ inl t ↦ absurd (u (IsUtf8-from_is_utf8 bytes t)) | inr f ↦ rw f refl ]
 
 pub chars-empty : (bytes : List ℕ) → IsUtf8 bytes → (length (chars bytes) == 0) ≡ (length bytes == 0)
 chars-empty [] u = rw chars-nil refl

@@ -6,20 +6,21 @@ use Rattle.std.proofs.lemmas.List.Folds.{list_all-append}
 use Rattle.std.proofs.lemmas.List.{take-append-drop, length-map, length-replicate}
 use Rattle.std.proofs.lemmas.List.Sums.{sum_by-append}
 use Rattle.unicode_width.specs.Width.{char_width}
+use Rattle.page_core_base.proofs.CharacterLemmas.{characters_of-text}
+use Rattle.page_core_base.specs.Texts.{characters_of}
 use Rattle.page_core_base.specs.declared.cells.Cell.{Cell}
 use Rattle.page_core_base.specs.declared.cells.Font.{Font}
 use Rattle.page_core_base.specs.declared.places.Place.{Place}
 use Rattle.page_core_base.specs.Rows.{nothing}
 use Rattle.page_core_base.specs.laws.Views.{cells_in, is_printable, is_printable_ascii}
 use Rattle.page_core_tables.specs.Glyphs.{char_printed, known}
-use Rattle.page_fill_rows.specs.OpenRows.{Sheet, characters_of}
+use Rattle.page_fill_rows.specs.OpenRows.{Sheet}
 use Rattle.page_fill_cells.specs.Cells.{cell_columns, columns, blank, cell_of, cells_of}
 use Rattle.page_fill_rows.specs.machine.Sheets.{counted, passes, letter, letters, space, spaces}
 use Rattle.page_core_base.specs.declared.limits.TheConstants.{CELLS}
 use Rattle.page_fill_rows.specs.declared.TheConstants.{TAG_COLUMNS}
 use Rattle.page_fill_rows.specs.laws.Views.{character, characters}
 use Rattle.page_fill_rows.specs.machine.Room.{IsSound}
-use Rattle.page_fill_rows.proofs.CharacterLemmas.{characters_of-text}
 use Rattle.page_core_base.specs.declared.page_settings.Output.{Output}
 use Rattle.std.proofs.lemmas.Str.{chars-IsAscii, IsUtf8-from_ascii}
 use Rattle.std.proofs.lemmas.Str.Ascii.{IsAscii-nil}

@@ -1,6 +1,5 @@
 -- The open row: what a character and a glyph print into it, and what is known of the rows above it. Source: roff(7), "Filling and adjusting".
-use Rattle.std.specs.Prelude.{List, ◌++◌, ℕ, [], if◌then◌else◌, Option, option_map, option_to_list, Bool, ◌+◌, min, false}
-use Rattle.std.specs.Str.{chars, is_utf8}
+use Rattle.std.specs.Prelude.{List, ◌++◌, ℕ, [], Option, option_map, option_to_list, Bool, ◌+◌, min, false}
 use Rattle.page_core_base.specs.Messages.{Message, message_about}
 use Rattle.page_core_base.specs.Rows.{Laid}
 use Rattle.page_core_base.specs.declared.cells.Cell.{Cell}
@@ -13,10 +12,6 @@ pub use Rattle.page_fill_cells.specs.Cells.{cell_of, cells_of, columns}
 -- messages come before what is laid
 abbrev pub with_notes : {E : Type 0} → List Message → Laid E → Laid E
 with_notes notes l = record { rows = l.rows; notes = notes ++ l.notes; edge = l.edge }
-
--- the characters of a text; bytes that are not UTF-8 have none
-unfoldable pub characters_of : List ℕ → List ℕ
-characters_of bytes = if is_utf8 bytes then chars bytes else []
 
 -- what can't be printed is reported
 abbrev pub unknown_notes : Option (List ℕ) → Place → List Message

@@ -12,7 +12,7 @@ use Rattle.page_sets_lines.specs.declared.events.Join.TheVariants.{Apart, Glued}
 use Rattle.page_sets_lines.specs.declared.events.Role.TheVariants as roles
 use Rattle.page_sets_names.specs.declared.generated_texts.GeneratedText.TheVariants.{Dash}
 
--- the last byte of a text is a quote (34)
+-- the last byte of a text is a quote
 abbrev pub ends_in_quote : List ℕ → Bool
 ends_in_quote [] = false
 ends_in_quote (byte ∷ []) = byte == 34
@@ -31,7 +31,7 @@ pub record IsInLine (line : TakenLine) (event : Event (List ℕ)) : Type 0 where
 
 -- ---- a line that has an event at the column after its last byte
 
--- a quote (34) after so many blanks (32)
+-- a quote after so many blanks (32)
 abbrev pub quote_after : ℕ → List ℕ
 quote_after zero = 34 ∷ []
 quote_after (suc blanks) = 32 ∷ quote_after blanks

@@ -93,7 +93,7 @@ fn set_register<O: NoteOut>(name: &[u8], number: i32, place: Place, names: &mut 
 }
 
 // Whether a value changes a register.
-fn is_change(value: &[u8]) -> bool
+fn begins_sign(value: &[u8]) -> bool
     ensures { result ≡ begins_sign value.now }
 {
     matches!(value, [b'+' | b'-', ..])
@@ -115,7 +115,7 @@ fn set_number<O: NoteOut>(name: &[u8], value: &[u8], place: Place, names: &mut N
     if is_read_only(name) {
         return;
     }
-    let next = if is_change(value) {
+    let next = if begins_sign(value) {
         names.register(name).unwrap_or(0).saturating_add(number)
     } else {
         number

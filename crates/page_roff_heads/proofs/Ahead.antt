@@ -13,9 +13,9 @@ use Rattle.page_roff_heads.specs.declared.conditions.Test.{Test}
 use Rattle.page_roff_heads.specs.declared.conditions.Test.TheVariants as tests
 use Rattle.page_roff_heads.specs.declared.conditions.TestRead.{TestRead}
 use Rattle.page_roff_heads.specs.Conditions.{both_len, condition_len, condition_of, has_both, is_odd, kind_of, longer, name_after, name_len, named, read_kind, read_test, reads, second_of, text_before, texts_after, texts_at, turn_len, argument_len, expression_len, expression_rest, placed}
-use Rattle.page_roff_syntax.specs.Delimiters.{character_len, delimiter_of, place_of, quoted_len, width_len}
+use Rattle.page_roff_syntax.specs.Delimiters.{character_len, delimiter_of, place_of, width_content_len, width_len}
 use Rattle.page_roff_heads.proofs.Reading.{texts_together}
-use Rattle.page_roff_syntax.proofs.DelimiterLemmas.{quoted_none, quoted_some}
+use Rattle.page_roff_syntax.proofs.DelimiterLemmas.{quoted_len, quoted_none, quoted_some}
 
 -- ---- runs
 
@@ -166,6 +166,7 @@ quoted_ahead (x ∷ w) r h =
     ]
 
 width_ahead : (w r : List ℕ) → width_len (w ++ r) ≤ length w → width_len (w ++ r) ≡ width_len w
+unfolding width_content_len
 width_ahead [] r h = no_more (width_len r) h
 width_ahead (x ∷ w) r h =
     elim (cases_Bool (x == 92)) [

@@ -1,14 +1,13 @@
 -- What is known of the brackets in a text: helpers of proofs.
-use Rattle.std.proofs.Common.{◌≡◌, ℕ, zero, suc, ◌+◌, ◌<◌, Bool, true, false, not, ◌&&◌, ◌||◌, ◌==◌, List, [], ◌∷◌, length, get_or, drop, take, if◌then◌else◌, Option, None, Some, MatchOption, option_map, unwrap_or, position, refl, arith}
+use Rattle.std.proofs.Common.{◌≡◌, ℕ, zero, suc, ◌+◌, ◌<◌, Bool, true, false, not, ◌&&◌, ◌||◌, ◌==◌, List, [], ◌∷◌, length, get_or, drop, if◌then◌else◌, Option, None, Some, MatchOption, option_map, unwrap_or, position, refl, arith}
 use Rattle.std.proofs.lemmas.Bool.{le-ltb, lt-ltb}
 use Rattle.std.proofs.lemmas.List.Sums.{position_or_len_is}
 use Rattle.memchr.specs.Find.{IsFirstByte, is_byte}
-use Rattle.page_core_base.specs.Bytes.{begins_escape}
 use Rattle.page_roff_parts.specs.declared.parts.Call.{Call}
 use Rattle.page_roff_parts.specs.declared.parts.Call.TheVariants.{String, Register, Width}
-use Rattle.page_roff_syntax.specs.Delimiters.{character_len}
+use Rattle.page_roff_syntax.specs.Delimiters.{character_len, width_content_len}
 use Rattle.page_roff_parts.specs.machine.Brackets.{has_bracket, IsKnown}
-use Rattle.page_roff_parts.specs.Parts.{CutText, SeenText, copies, calls, cut, two_characters, bracketed, name_cut, content_len, delimited, width_cut, plain, after_plain, argument_call, call_cut, pair, is_doubled, escape, seen}
+use Rattle.page_roff_parts.specs.Parts.{CutText, SeenText, copies, calls, cut, two_characters, bracketed, name_cut, width_cut, plain, after_plain, argument_call, call_cut, pair, is_doubled, escape, seen}
 
 abbrev pub Lacks : List ℕ → Type 0
 Lacks text = has_bracket text ≡ false
@@ -100,7 +99,7 @@ name_lacks (b ∷ bs) h =
 width_lacks : (text : List ℕ) → Lacks text → CutLacks (width_cut text)
 width_lacks text h =
     let n = character_len text in
-    cut_if (begins_escape text) None (delimited n text) tt (cut_lacks n (drop n text) (content_len (take n text) (drop n text)) (lacks_drop n text h))
+    cut_lacks n (drop n text) (width_content_len text) (lacks_drop n text h)
 
 call_lacks : (copy : Bool) (letter : ℕ) (bs : List ℕ) → Lacks bs → SeenLacks (call_cut copy letter bs)
 call_lacks copy letter bs h =

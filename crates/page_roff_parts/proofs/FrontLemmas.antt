@@ -1,19 +1,19 @@
 -- The bytes at a text's front that are copied as they are: helpers of proofs.
-use Rattle.std.proofs.Common.{inl, inr, not, zero-add, ◌&&◌, if◌then◌else◌, option_map, ◌∙◌, length-append, length-take, ◌≡◌, ℕ, zero, suc, ◌+◌, ◌-◌, ◌<◌, ◌≤◌, ◌==◌, Bool, true, false, nat_lt, List, [], ◌∷◌, ◌++◌, length, take, drop, get_or, Option, None, Some, is_none, unwrap_or, refl, sym, ap, arith, append_assoc, append-nil, length-drop}
+use Rattle.std.proofs.Common.{not, zero-add, ◌&&◌, if◌then◌else◌, option_map, ◌∙◌, length-append, length-take, ◌≡◌, ℕ, zero, suc, ◌+◌, ◌-◌, ◌<◌, ◌≤◌, ◌==◌, Bool, true, false, List, [], ◌∷◌, ◌++◌, length, take, drop, get_or, Option, None, Some, is_none, unwrap_or, refl, sym, ap, arith, append_assoc, append-nil, length-drop}
 use Rattle.std.proofs.Math.Seq.{drop-length, take-add, take-length}
-use Rattle.std.proofs.lemmas.Bool.{cases_Bool}
 use Rattle.std.proofs.lemmas.List.{drop-drop}
+use Rattle.std.specs.Option.{option_map_or}
 use Rattle.memchr.specs.Find.{IsFirstByte, is_byte}
 use Rattle.page_roff_parts.specs.declared.parts.Part.{Part}
 use Rattle.page_roff_parts.specs.declared.parts.Part.TheVariants.{Copied, Called}
 use Rattle.std.specs.Prelude.{⊤, IfSome}
 use Rattle.page_roff_parts.specs.declared.parts.Call.{Call}
 use Rattle.page_roff_parts.specs.declared.parts.Call.TheVariants.{String, Register, Width}
-use Rattle.page_roff_parts.specs.Parts.{CutText, SeenText, after_plain, call_cut, calls, content_len, copies, escape, is_doubled, name_cut, pair, parts, parts_up_to, plain, seen, width_cut}
+use Rattle.page_roff_parts.specs.Parts.{CutText, SeenText, after_plain, call_cut, calls, copies, cut, escape, is_doubled, name_cut, pair, parts, parts_up_to, plain, seen, width_cut}
 use Rattle.page_roff_parts.specs.machine.Fronts.{IsFront, copied_front}
 use Rattle.page_roff_parts.specs.machine.Verbatim.{IsVerbatim, copied_bytes}
 use Rattle.page_roff_parts.specs.machine.Brackets.{has_bracket}
-use Rattle.page_roff_syntax.specs.Delimiters.{character_len, place_of, width_len}
+use Rattle.page_roff_syntax.specs.Delimiters.{character_len, width_content_len, width_len}
 use Rattle.page_roff_parts.proofs.BracketLemmas.{lacking}
 use Rattle.page_roff_parts.proofs.ReadLemmas.{by_if, parts_more, plain_part, seen_shorter}
 
@@ -24,22 +24,16 @@ none_of true o e = e
 none_of false o e = refl
 
 width_none : (text : List ℕ) → width_len text ≡ 0 → width_cut text ≡ None
-unfolding content_len
+unfolding width_content_len
 width_none [] h = refl
-width_none (b ∷ bs) h =
-    elim (cases_Bool (b == 92)) [
-      | inl p ↦ rw p refl
-      | inr p ↦ elim (cases_Bool (nat_lt (place_of d u) (length u))) [
-        | inl x ↦ absurd (let n = rw (p, x) at h in omega (arith, n))
-        | inr x ↦ rw (p, x) refl
-      ]
-    ]
+width_none (b ∷ bs) h = go (width_content_len (b ∷ bs)) h
   where
-    d : List ℕ
-    d = take (character_len (b ∷ bs)) (b ∷ bs)
+    n : ℕ
+    n = character_len (b ∷ bs)
 
-    u : List ℕ
-    u = drop (character_len (b ∷ bs)) (b ∷ bs)
+    go : (o : Option ℕ) → option_map_or (λ k. n + k + n) o 0 ≡ 0 → option_map (λ k. cut k n (drop n (b ∷ bs))) o ≡ None
+    go None e = refl
+    go (Some k) e = absurd (omega (arith, e))
 
 pub lone_width : (copy : Bool) (letter : ℕ) (rest : List ℕ) → letter ≡ 119 → width_len rest ≡ 0 → call_cut copy letter rest ≡ None
 lone_width copy letter rest e h = rw (e, width_none rest h) (none_of (not copy) None refl)

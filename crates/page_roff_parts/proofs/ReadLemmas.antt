@@ -4,10 +4,10 @@ use Rattle.std.proofs.lemmas.Bool.{eqb-true}
 use Rattle.std.proofs.lemmas.Bool.Decides.{nat_tests}
 use Rattle.memchr.specs.Find.{IsFirstByte, is_byte}
 use Rattle.page_core_base.specs.Bytes.{begins_escape}
-use Rattle.page_roff_syntax.specs.Delimiters.{character_len}
+use Rattle.page_roff_syntax.specs.Delimiters.{character_len, width_content_len}
 use Rattle.page_roff_parts.specs.declared.parts.Call.{Call}
 use Rattle.page_roff_parts.specs.declared.parts.Call.TheVariants.{String, Register, Argument, Width}
-use Rattle.page_roff_parts.specs.Parts.{CutText, SeenText, copies, calls, cut, two_characters, bracketed, name_cut, content_len, delimited, width_cut, plain, after_plain, call_cut, pair, is_doubled, escape, seen, parts_up_to, parts}
+use Rattle.page_roff_parts.specs.Parts.{CutText, SeenText, copies, calls, cut, two_characters, bracketed, name_cut, width_cut, plain, after_plain, call_cut, pair, is_doubled, escape, seen, parts_up_to, parts}
 
 -- ---- copies
 
@@ -132,8 +132,7 @@ delimited_at n text (Some k) = let h = drop_le (k + n) (drop n text) in let g = 
 
 width_within : (text : List ℕ) → CutWithin (length text) (width_cut text)
 width_within text =
-    let n = character_len text in
-    by_if (CutWithin (length text)) (begins_escape text) None (delimited n text) tt (delimited_at n text (content_len (take n text) (drop n text)))
+    delimited_at (character_len text) text (width_content_len text)
 
 call_within : (copy : Bool) (letter : ℕ) (bs : List ℕ) → SeenWithin (length bs) (call_cut copy letter bs)
 call_within copy letter bs =

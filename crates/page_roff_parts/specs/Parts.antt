@@ -1,8 +1,8 @@
 -- What a text is made of: bytes that are copied, and interpolations. Source: roff(7), "Escape sequences", `\*`, `\n`, `\$`, `\w`,
 -- and on copy mode.
-use Rattle.std.specs.Prelude.{ℕ, List, ◌+◌, take, drop, ◌==◌, Option, Some, None, if◌then◌else◌, position, option_map, [], ◌∷◌, nat_lt, length, Bool, not, ◌&&◌, unwrap_or, zero, suc, codes}
-use Rattle.page_core_base.specs.Bytes.{begins_escape, ascii}
-use Rattle.page_roff_syntax.specs.Delimiters.{character_len, place_of}
+use Rattle.std.specs.Prelude.{ℕ, List, ◌+◌, take, drop, ◌==◌, Option, Some, None, if◌then◌else◌, position, option_map, [], ◌∷◌, length, Bool, not, ◌&&◌, unwrap_or, zero, suc, codes}
+use Rattle.page_core_base.specs.Bytes.{ascii}
+use Rattle.page_roff_syntax.specs.Delimiters.{character_len, width_content_len}
 use Rattle.page_roff_parts.specs.declared.parts.Call.{Call}
 use Rattle.page_roff_parts.specs.declared.parts.Call.TheVariants.{Argument, String, Register, Width}
 use Rattle.page_roff_parts.specs.declared.parts.Part.{Part}
@@ -35,19 +35,9 @@ name_cut (b ∷ bs) =
     if b == ascii "(" then two_characters bs
     else (if b == ascii "[" then bracketed bs else Some (cut (character_len (b ∷ bs)) 0 (b ∷ bs)))
 
--- ---- texts between two delimiters
-
--- how many bytes are before a delimiter's next occurrence outside pairs
-unfoldable pub content_len : (delimiter : List ℕ) → List ℕ → Option ℕ
-content_len delimiter text = let place = place_of delimiter text in if nat_lt place (length text) then Some place else None
-
--- the first character is the delimiter
-abbrev pub delimited : ℕ → List ℕ → Option CutText
-delimited n text = option_map (λ k. cut k n (drop n text)) (content_len (take n text) (drop n text))
-
--- None where the text ends before the second delimiter. A backslash begins a pair, so it is none.
+-- the text between a width's delimiters, and what follows these
 abbrev pub width_cut : List ℕ → Option CutText
-width_cut text = if begins_escape text then None else delimited (character_len text) text
+width_cut text = let n = character_len text in option_map (λ k. cut k n (drop n text)) (width_content_len text)
 
 -- ---- parts
 

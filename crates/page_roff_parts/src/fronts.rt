@@ -12,7 +12,7 @@ use crate::endings::after;
 use crate::parts::is_doubled;
 use crate::verbatim::{is_verbatim, may_call};
 use memchr::memchr;
-use page_roff_syntax::{begins_pair, character_len};
+use page_roff_syntax::{begins_escape, character_len};
 
 // Whether a text begins with the bracket that opens a name.
 fn begins_name(text: &[u8]) -> bool
@@ -28,7 +28,7 @@ fn has_no_end(letter: u8, rest: &[u8], is_unclosed: bool, is_lone: bool) -> bool
     ensures { (copy : Bool) → IsTrue result → call_cut copy letter rest.now ≡ None }
 {
     if letter == b'w' {
-        return is_lone || begins_pair(rest);
+        return is_lone || begins_escape(rest);
     }
     if letter == b'*' || letter == b'n' {
         return is_unclosed && begins_name(rest);

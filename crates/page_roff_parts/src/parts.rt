@@ -1,6 +1,6 @@
 //! What a text is made of (roff(7), "Escape sequences").
 
-ghost use Rattle.std.specs.Prelude.{◌≡◌, ◌<◌, ◌≤◌, ◌+◌, ◌==◌, length, Some, None, IsTrue, option_map, IfSome, take, drop, get_or};
+ghost use Rattle.std.specs.Prelude.{◌≡◌, ◌<◌, ◌≤◌, ◌+◌, ◌==◌, length, Some, None, IsTrue, option_map, take, drop, get_or};
 ghost use Rattle.page_core_base.specs.Bytes.{begins_escape};
 ghost use Rattle.page_roff_parts.specs.machine.Brackets.{IsKnown};
 ghost use Rattle.page_roff_parts.specs.Parts as reading;
@@ -8,7 +8,7 @@ ghost use Rattle.page_roff_parts.specs.machine.Views.{seen_of, cut_of, call_of};
 
 use crate::endings::after;
 use memchr::memchr;
-use page_roff_syntax::{begins_pair, character_len, place_of};
+use page_roff_syntax::{character_len, width_content_len};
 
 /// An interpolation: of a string, a number register, an argument (the escape as it is written), or the width of a text.
 #[derive(Drop)]
@@ -95,40 +95,14 @@ fn read_name<'e>(text: &'e [u8], is_unclosed: &mut bool) -> Option<Cut<'e>>
     }
 }
 
-// How many bytes are before a delimiter's next occurrence outside pairs.
-#[tactic(auto, unfolding(crate::specs::Parts::content_len))]
-fn content_len(delimiter: &[u8], text: &[u8]) -> Option<usize>
-    ensures value { result ≡ reading.content_len delimiter.now text.now }
-    ensures bound { IfSome result (λ len. len + length delimiter.now ≤ length text.now) }
-{
-    let place = place_of(delimiter, text);
-    if place < text.len() {
-        Some(place)
-    } else {
-        None
-    }
-}
-
-// The text between two delimiters of so many bytes, of which one begins it.
-fn read_delimited(text: &[u8], mark: usize) -> Option<Cut<'_>>
-    requires { mark ≤ length text.now }
-    ensures { option_map cut_of result ≡ reading.delimited mark text.now }
-{
-    let inner = after(text, mark);
-    match content_len(&text[..mark], inner) {
-        None => None,
-        Some(len) => Some(cut_at(inner, len, mark)),
-    }
-}
-
-// The text between two delimiters, of which the first character is one. A backslash begins a pair, so it is none.
+// The text between a width's delimiters.
 fn read_width(text: &[u8]) -> Option<Cut<'_>>
     ensures { option_map cut_of result ≡ reading.width_cut text.now }
 {
-    if begins_pair(text) {
-        None
-    } else {
-        read_delimited(text, character_len(text))
+    let mark = character_len(text);
+    match width_content_len(text) {
+        None => None,
+        Some(len) => Some(cut_at(after(text, mark), len, mark)),
     }
 }
 

@@ -9,7 +9,7 @@ use Rattle.std.proofs.lemmas.Bool.Decides.{nat_tests}
 use Rattle.std.proofs.lemmas.List.{drop-drop, get_or-drop, get_or-take, get_or-set_same, get_or-set_other}
 use Rattle.std.proofs.lemmas.Nat.Bits.{bit_at_or, bit_at_set_same}
 use Rattle.page_core_base.specs.Bytes.{begins_escape}
-use Rattle.page_roff_syntax.specs.Delimiters.{character_len, place_of, width_len}
+use Rattle.page_roff_syntax.specs.Delimiters.{character_len, place_of, width_content_len, width_len}
 use Rattle.page_roff_syntax.specs.machine.Closed.{AreMarked, AreMet, Grows, code_of, goes_on, is_met, is_noted, is_outside}
 use Rattle.page_roff_syntax.proofs.DelimiterLemmas.{place_found}
 
@@ -132,6 +132,7 @@ outside_drop (suc n) at text e =
 -- a width whose delimiter was not met has no end
 pub lone_width : (words text : List ℕ) (at : ℕ) → at < length text → AreMet words text (at + 1) → is_noted (drop at text) ≡ true
     → is_met words (code_of (drop at text)) ≡ false → width_len (drop at text) ≡ 0
+unfolding width_content_len
 lone_width words text at within met noted lacks =
     elim (cases_Bool (begins_escape t)) [
       | inl p ↦ rw p refl

@@ -1,12 +1,13 @@
 -- Where a search finds a delimiter, and whether a pair takes it: helpers of proofs.
 use Rattle.std.proofs.Common.{◌≡◌, ◌≢◌, ℕ, zero, suc, ◌+◌, ◌<◌, ◌≤◌, ◌==◌, nat_eq, nat_lt, Bool, true, false, List, [], ◌∷◌, None, Some, length, take, drop, if◌then◌else◌, refl, sym, ap, ◌∙◌, inl, inr, arith, length-drop, length-take}
 use Rattle.std.specs.List.{starts_with}
+use Rattle.std.specs.Option.{option_map_or}
 use Rattle.std.specs.Cmp.Lexicographic.{same_text, bytes_decides}
 use Rattle.std.proofs.lemmas.Bool.Decides.{nat_tests}
 use Rattle.std.proofs.lemmas.Bool.{cases_Bool, eqb-true}
 use Rattle.memchr.specs.Find.{OccursAt, FindsNeedle}
 use Rattle.memchr.proofs.lemmas.MatchLemmas.{OccursAt-part, OccursAt-from_part}
-use Rattle.page_roff_syntax.specs.Delimiters.{character_len, place_of, quoted_len}
+use Rattle.page_roff_syntax.specs.Delimiters.{character_len, content_len, delimiter_of, place_of}
 use Rattle.page_roff_syntax.specs.machine.Closed.{is_outside}
 
 -- a delimiter is at none of the first n places
@@ -156,7 +157,10 @@ never d (x ∷ y ∷ ys) a =
 pub not_found : (text d : List ℕ) → FindsNeedle text d 0 None → place_of d text ≡ length text
 not_found text d h = never d text (λ k l. absent_to text d (length text) (omega arith) (λ j m n. h j m (omega arith)) k l)
 
--- ---- a text in delimiters
+-- ---- a width, where no backslash is its first character
+
+abbrev pub quoted_len : List ℕ → ℕ
+quoted_len text = option_map_or (λ n. character_len text + n + character_len text) (content_len (delimiter_of text) (drop (character_len text) text)) 0
 
 pub quoted_some : (text delimiter inner : List ℕ) (m n : ℕ) → m ≡ character_len text → delimiter ≡ take m text → inner ≡ drop m text → n ≡ place_of delimiter inner
     → n < length inner → m + n + m ≡ quoted_len text

@@ -1,6 +1,7 @@
 -- The end of a text, and texts between delimiters. Source: roff(7), "Language syntax".
 use Rattle.std.specs.List.{starts_with}
-use Rattle.std.specs.Prelude.{ℕ, ◌+◌, Bool, ◌==◌, ◌&&◌, List, [], ◌∷◌, if◌then◌else◌, take, min, length, nat_eq, nat_lt, drop}
+use Rattle.std.specs.Option.{option_map_or}
+use Rattle.std.specs.Prelude.{ℕ, ◌+◌, Bool, ◌==◌, ◌&&◌, List, [], ◌∷◌, Option, None, Some, if◌then◌else◌, take, min, length, nat_eq, nat_lt, drop}
 use Rattle.std.specs.Str.{continuation_len}
 use Rattle.page_core_base.specs.Bytes.{ascii, begins_escape}
 
@@ -36,13 +37,15 @@ place_of delimiter (byte ∷ next ∷ bytes) =
     else if byte == ascii "\\" then 2 + place_of delimiter bytes
     else 1 + place_of delimiter (next ∷ bytes)
 
--- the bytes of a text in delimiters, with these; none where the second is missing
-abbrev pub quoted_len : List ℕ → ℕ
-quoted_len text =
-    let inner = drop (character_len text) text in
-    let place = place_of (delimiter_of text) inner in
-    if nat_lt place (length inner) then character_len text + place + character_len text else 0
+-- how many bytes are before a delimiter's next occurrence outside pairs; none where there is none
+abbrev pub content_len : (delimiter : List ℕ) → List ℕ → Option ℕ
+content_len delimiter text = let place = place_of delimiter text in if nat_lt place (length text) then Some place else None
 
--- those of a width, of which a pair is no delimiter
+-- What is between a width's delimiters, of which the first character is one; none where the second is missing. A backslash begins a
+-- pair, so it is none.
+unfoldable pub width_content_len : List ℕ → Option ℕ
+width_content_len text = if begins_escape text then None else content_len (delimiter_of text) (drop (character_len text) text)
+
+-- the bytes of a width with its delimiters; 0 where the second is missing
 abbrev pub width_len : List ℕ → ℕ
-width_len text = if begins_escape text then 0 else quoted_len text
+width_len text = option_map_or (λ n. character_len text + n + character_len text) (width_content_len text) 0

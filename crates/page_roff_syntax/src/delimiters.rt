@@ -1,9 +1,9 @@
 //! Texts between delimiters.
 
-ghost use Rattle.std.specs.Prelude.{◌≡◌, ◌≤◌, ◌<◌, ◌+◌, length};
+ghost use Rattle.std.specs.Prelude.{◌≡◌, ◌≤◌, ◌<◌, ◌+◌, IfSome, length};
 ghost use Rattle.std.specs.Str.{continuation_len};
 ghost use Rattle.page_core_base.specs.Bytes.{begins_escape};
-ghost use Rattle.page_roff_syntax.specs.Delimiters.{character_len, place_of, quoted_len, width_len};
+ghost use Rattle.page_roff_syntax.specs.Delimiters.{character_len, place_of, content_len, width_content_len, width_len};
 ghost use Rattle.page_roff_syntax.specs.machine.Closed.{is_outside};
 
 use memchr::memmem;
@@ -68,36 +68,48 @@ pub fn place_of(delimiter: &[u8], text: &[u8]) -> usize
     place
 }
 
-// The number of bytes of a text in delimiters with these, or 0 where the second is missing.
-fn quoted_len(text: &[u8]) -> usize
-    ensures value { result ≡ quoted_len text.now }
-    ensures within { result ≤ length text.now }
+// How many bytes are before a delimiter's next occurrence outside pairs.
+fn content_len(delimiter: &[u8], text: &[u8]) -> Option<usize>
+    ensures value { result ≡ content_len delimiter.now text.now }
+    ensures within { IfSome result (λ len. len + length delimiter.now ≤ length text.now) }
 {
-    let len = character_len(text);
-    let (delimiter, inner) = text.split_at(len);
-    let place = place_of(delimiter, inner);
-    if place < inner.len() {
-        len + place + len
+    let place = place_of(delimiter, text);
+    if place < text.len() {
+        Some(place)
     } else {
-        0
+        None
     }
 }
 
 /// Whether a text begins with a backslash.
-pub fn begins_pair(text: &[u8]) -> bool
+pub fn begins_escape(text: &[u8]) -> bool
     ensures { result ≡ begins_escape text.now }
 {
     matches!(text, [b'\\', ..])
 }
 
-/// The number of bytes of a width's text in its delimiters, or 0 where one is missing. A pair is none.
+/// How many bytes are between a width's delimiters, of which the first character is one (roff(7), `\w`). None where the second is missing;
+/// a backslash begins a pair, so it is none.
+#[tactic(auto, unfolding(crate::specs::Delimiters::width_content_len))]
+pub fn width_content_len(text: &[u8]) -> Option<usize>
+    ensures value { result ≡ width_content_len text.now }
+    ensures within { IfSome result (λ len. character_len text.now + len + character_len text.now ≤ length text.now) }
+{
+    if begins_escape(text) {
+        return None;
+    }
+    let (delimiter, inner) = text.split_at(character_len(text));
+    content_len(delimiter, inner)
+}
+
+/// The number of bytes of a width with its delimiters, or 0 where the second is missing.
 pub fn width_len(text: &[u8]) -> usize
     ensures value { result ≡ width_len text.now }
     ensures within { result ≤ length text.now }
 {
-    if begins_pair(text) {
-        0
-    } else {
-        quoted_len(text)
+    let mark = character_len(text);
+    match width_content_len(text) {
+        None => 0,
+        Some(len) => mark + len + mark,
     }
 }

@@ -34,7 +34,7 @@ mod values;
 pub use arguments::{Arguments, blank_len, has_arguments, read_argument};
 pub use closed_widths::{MET_WORDS, is_lone, mark_closed};
 pub use comments::{begins_comment, plain_len, uncommented_len};
-pub use delimiters::{begins_pair, character_len, place_of, width_len};
+pub use delimiters::{begins_escape, character_len, place_of, width_content_len, width_len};
 pub use ends::kept_len;
 pub use laws::arguments_law;
 pub use line_forms::{

@@ -12,13 +12,13 @@ use Rattle.page_core_base.specs.Bytes.{begins_escape}
 use Rattle.page_core_escapes.specs.Lengths as escapes
 use Rattle.page_core_escapes.proofs.Characters.{CutsAt, CutsAt-add, Taken, first_of, character_len-encode, character_len-taken}
 use Rattle.page_core_escapes.proofs.Boundaries.{character_begins, character_ends}
-use Rattle.page_roff_syntax.specs.Delimiters.{character_len, place_of}
+use Rattle.page_roff_syntax.specs.Delimiters.{character_len, content_len, place_of, width_content_len}
 use Rattle.page_roff_syntax.proofs.DelimiterLemmas.{place_found}
 use Rattle.page_roff_parts.specs.declared.parts.Call.{Call}
 use Rattle.page_roff_parts.specs.declared.parts.Call.TheVariants.{String, Register, Width}
 use Rattle.page_roff_parts.specs.declared.parts.Part.{Part}
 use Rattle.page_roff_parts.specs.declared.parts.Part.TheVariants.{Copied, Called}
-use Rattle.page_roff_parts.specs.Parts.{CutText, SeenText, copies, calls, cut, two_characters, bracketed, name_cut, content_len, delimited, width_cut, plain, after_plain, argument_call, call_cut, pair, is_doubled, escape, seen, parts_up_to, parts, without_lone}
+use Rattle.page_roff_parts.specs.Parts.{CutText, SeenText, copies, calls, cut, two_characters, bracketed, name_cut, width_cut, plain, after_plain, argument_call, call_cut, pair, is_doubled, escape, seen, parts_up_to, parts, without_lone}
 use Rattle.page_roff_values.specs.machine.Texts.{IsText}
 use Rattle.page_roff_values.proofs.PlainTexts.{nil_text, ascii_text, text_append, text_cut, text_at, text_after, text_seam}
 
@@ -86,12 +86,15 @@ abbrev EndsAt : List ℕ → List ℕ → Option ℕ → Type 0
 EndsAt d t o = MatchOption o (Unit {0}) (λ k. starts_with nat_eq (drop k t) d ≡ true)
 
 content_ends : (d t : List ℕ) → EndsAt d t (content_len d t)
-unfolding content_len
 content_ends d t = by (nat_lt (place_of d t) (length t)) refl
   where
     by : (b : Bool) → nat_lt (place_of d t) (length t) ≡ b → EndsAt d t (if b then Some (place_of d t) else None)
     by true e = (place_found d t (ltb-true (place_of d t) (length t) e)).1
     by false e = tt
+
+ends_unless : (c : Bool) (d t : List ℕ) (o : Option ℕ) → EndsAt d t o → EndsAt d t (if c then None else o)
+ends_unless true d t o h = tt
+ends_unless false d t o h = h
 
 -- both what is between the delimiters and what follows
 abbrev CutTexts : Option CutText → Type 0
@@ -101,14 +104,17 @@ texts_if : (c : Bool) (o p : Option CutText) → CutTexts o → CutTexts p → C
 texts_if true o p h k = h
 texts_if false o p h k = k
 
-delimited_texts : (b : ℕ) (bs : List ℕ) → IsText (b ∷ bs) → CutTexts (delimited (character_len (b ∷ bs)) (b ∷ bs))
-delimited_texts b bs h =
+width_texts : (t : List ℕ) → IsText t → CutTexts (width_cut t)
+unfolding width_content_len
+width_texts [] h = tt
+width_texts (b ∷ bs) h =
     let t = b ∷ bs in
     let n = character_len t in
     let first = taken b bs h.utf8 in
     let u = drop n t in
     let inner : IsText u = (text_cut t n h first.cut).1 in
-    go n u (take n t) first.first.code first.bytes first.len inner (content_len (take n t) u) (content_ends (take n t) u)
+    let ends = ends_unless (b == 92) (take n t) u (content_len (take n t) u) (content_ends (take n t) u) in
+    go n u (take n t) first.first.code first.bytes first.len inner (width_content_len t) ends
   where
     go : (n : ℕ) (u d : List ℕ) (c : ℕ) → d ≡ encode c → length (encode c) ≡ n → IsText u → (o : Option ℕ) → EndsAt d u o
         → CutTexts (option_map (λ k. cut k n u) o)
@@ -117,11 +123,6 @@ delimited_texts b bs h =
         let e = rw is at h in
         let more = character_ends u k c inner.utf8 e in
         ((text_cut u k inner (character_begins u k c inner.utf8 e)).0, (text_cut u (k + n) inner (rw len at more)).1)
-
-width_texts : (t : List ℕ) → IsText t → CutTexts (width_cut t)
-unfolding content_len
-width_texts [] h = tt
-width_texts (b ∷ bs) h = texts_if (b == 92) None (delimited (character_len (b ∷ bs)) (b ∷ bs)) tt (delimited_texts b bs h)
 
 -- ---- parts
 

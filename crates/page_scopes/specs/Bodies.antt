@@ -1,6 +1,6 @@
 -- The body of a page: what its events give, by the block tree of its scopes laid out. Source: man(7), mdoc(7).
 use Rattle.std.specs.Prelude.{ℕ, Bool, true, false, List, not, ◌&&◌, if◌then◌else◌, [], ◌∷◌, ◌++◌, Some, Option, None}
-use Rattle.page_core_base.specs.Rows.{Item, shown}
+use Rattle.page_core_base.specs.Rows.{Item, shown, says}
 use Rattle.page_core_base.specs.declared.note_kinds.NoteKind.TheVariants.{BeforeSection}
 use Rattle.page_core_base.specs.declared.page_settings.Output.{Output}
 use Rattle.page_core_base.specs.declared.pieces.Piece.TheVariants as pieces
@@ -22,7 +22,7 @@ use Rattle.page_sets_lines.specs.declared.openers.Opener.TheVariants as openers
 use Rattle.page_scopes_tree.specs.Placements.{ScopesEdge}
 use Rattle.page_scopes_tree.specs.declared.acts.Act.{Act}
 use Rattle.page_scopes_tree.specs.declared.acts.Act.TheVariants as acts
-use Rattle.page_scopes_words.specs.Words.{at, says, number_notes}
+use Rattle.page_scopes_words.specs.Words.{at, number_notes}
 use Rattle.page_scopes_layout.specs.Lists.{margin_items}
 use Rattle.page_scopes_layout.specs.declared.contexts.Context.{Context}
 use Rattle.page_scopes_phrases.specs.LineWords.{argument_word, line_word}

@@ -1,6 +1,6 @@
 -- Lists: their widths, their tags, and the marks and numbers of their items. Source: mdoc(7), `Bl`, `It`; man(7), `TP`.
 use Rattle.std.specs.Prelude.{false, Some, None, [], ◌∷◌, ◌++◌, ℕ, List, Option, codes, decimal, pos, Bool, true, ◌+◌, option_map, unwrap_or, if◌then◌else◌, ℤ, fold}
-use Rattle.page_core_base.specs.Rows.{shown, Item}
+use Rattle.page_core_base.specs.Rows.{shown, Item, says}
 use Rattle.page_core_base.specs.declared.note_kinds.NoteKind.TheVariants.{Limit}
 use Rattle.page_core_base.specs.declared.page_settings.Output.{Output}
 use Rattle.page_core_base.specs.declared.pieces.Piece.TheVariants as pieces
@@ -17,7 +17,6 @@ use Rattle.page_sets_lines.specs.declared.lists.ListKind.TheVariants as kinds
 use Rattle.page_sets_lines.specs.declared.lists.ListOptions.{ListOptions}
 use Rattle.page_scopes_labels.specs.declared.labels.Label.TheVariants as labels
 use Rattle.page_scopes_words.specs.Widths.{width_columns, width_notes, name_columns}
-use Rattle.page_scopes_words.specs.Words.{says}
 use Rattle.page_scopes_layout.specs.Contexts.{hold, entered_context}
 use Rattle.page_scopes_layout.specs.Lists.{margin_items, item_begun, begin_items, has_room, with_width, no_widths, list_begun}
 use Rattle.page_scopes_layout.specs.declared.contexts.Context.{Context}

@@ -23,7 +23,7 @@ text_and text c = min (text * 256 + c) (2 ^ 64 - 1)
 abbrev pub no_heading : HeadingSoFar
 no_heading = record { text = 0; is_parted = false }
 
--- a character is printed; white space before it is a blank (32), but at the heading's front
+-- a character is printed; white space before it is a blank, but at the heading's front
 abbrev pub character_further : HeadingSoFar → ℕ → HeadingSoFar
 character_further h c = record { text = text_and (if h.is_parted && nat_lt 0 h.text then text_and h.text (ascii " ") else h.text) c; is_parted = false }
 

@@ -1,13 +1,13 @@
 -- What a scope begins with, of any event that opens one, and what it keeps. Source: man(7), mdoc(7).
-use Rattle.std.specs.Prelude.{Bool, List, [], ◌∷◌, ◌++◌, ℕ, false, true, codes, Option, option_map, unwrap_or, if◌then◌else◌, None, Some, ◌+◌, pos, ◌+ℤ◌}
-use Rattle.page_core_base.specs.Rows.{Item, shown}
+use Rattle.std.specs.Prelude.{List, [], ◌∷◌, ◌++◌, ℕ, false, true, codes, Option, option_map, unwrap_or, if◌then◌else◌, None, Some, ◌+◌, pos, ◌+ℤ◌}
+use Rattle.page_core_base.specs.Rows.{Item, shown, says}
 use Rattle.page_core_base.specs.declared.cells.Font.{Font}
 use Rattle.page_core_base.specs.declared.cells.Font.TheVariants.{B}
 use Rattle.page_core_base.specs.declared.cells.Font.TheVariants as faces
 use Rattle.page_core_base.specs.declared.note_kinds.NoteKind.TheVariants.{SkipPara}
 use Rattle.page_core_base.specs.declared.pieces.Piece.TheVariants.{Text}
 use Rattle.page_core_base.specs.declared.places.Place.{Place}
-use Rattle.page_core_escapes.specs.Tokens.{TextToken, tokens_of}
+use Rattle.page_core_escapes.specs.Tokens.{tokens_of}
 use Rattle.page_roff_syntax.specs.Arguments.{is_quoted}
 use Rattle.page_roff_syntax.specs.declared.quotes.Argument.{Argument}
 use Rattle.page_sets_names.specs.Names.{paragraph_name}
@@ -30,7 +30,7 @@ use Rattle.page_scopes_labels.specs.declared.labels.Explicit.TheVariants.{Relati
 use Rattle.page_scopes_labels.specs.declared.labels.Label.{Label}
 use Rattle.page_scopes_labels.specs.declared.labels.Label.TheVariants as labels
 use Rattle.page_scopes_words.specs.Widths.{name_columns}
-use Rattle.page_scopes_words.specs.Words.{token_notes, at, columns_notes, says, columns_value}
+use Rattle.page_scopes_words.specs.Words.{tokens_notes, at, columns_notes, columns_value}
 use Rattle.page_scopes_words.specs.declared.fonts.Fonts.{Fonts}
 use Rattle.page_scopes_words.specs.declared.settings.Setting.{Setting}
 use Rattle.page_scopes_layout.specs.Contexts.{entered_context, indented_begun, hold, margin_begun, syntax_begun, text_margin, subsection_begun, font_begun, heading_begun, first_at_margin, flat, reset, PREVAILING}
@@ -52,14 +52,10 @@ use Rattle.page_scopes_layout.specs.declared.contexts.PageSection.TheVariants.{O
 
 -- ---- where the link begins
 
-abbrev pub notes_of : (quoted : Bool) → Place → List TextToken → List Item
-notes_of quoted place [] = []
-notes_of quoted place (token ∷ tokens) = token_notes quoted place token ++ notes_of quoted place tokens
-
 -- its escapes are reported at its column, and that it is cut at the macro
 abbrev pub target_notes : Place → Argument (List ℕ) → List Item
 target_notes place argument =
-    notes_of (is_quoted argument.quoting) (at place.line argument.column) (tokens_of (is_quoted argument.quoting) argument.text)
+    tokens_notes (is_quoted argument.quoting) (at place.line argument.column) (tokens_of (is_quoted argument.quoting) argument.text)
     ++ cut_notes place argument
 
 -- ---- where it ends

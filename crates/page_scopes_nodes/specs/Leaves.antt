@@ -1,7 +1,7 @@
 -- What opens and closes nothing: what each leaf gives, and what it leaves. Source: man(7), mdoc(7), roff(7).
 use Rattle.std.specs.Prelude.{ℕ, List, [], ◌∷◌, ◌==◌, ◌++◌, if◌then◌else◌, nat_lt, ◌||◌, true, length, Option, option_map, unwrap_or, Bool, false, None, Some, ℤ, pos, ◌+ℤ◌, not, ◌&&◌, max}
 use Rattle.page_core_base.specs.Bytes.{begins_sign}
-use Rattle.page_core_base.specs.Rows.{Item, shown}
+use Rattle.page_core_base.specs.Rows.{Item, shown, says}
 use Rattle.page_core_base.specs.declared.cells.Font.{Font}
 use Rattle.page_core_base.specs.declared.note_kinds.NoteKind.TheVariants.{SkipPara, BlankFill}
 use Rattle.page_core_base.specs.declared.pieces.Piece.TheVariants as pieces
@@ -27,7 +27,7 @@ use Rattle.page_sets_lines.specs.declared.line_steps.LineStep.TheVariants as ste
 use Rattle.page_sets_lines.specs.declared.line_steps.SynopsisStep.{SynopsisStep}
 use Rattle.page_sets_lines.specs.declared.line_steps.SynopsisStep.TheVariants.{Break, Include, NameBegins, NameEnds}
 use Rattle.page_scopes_words.specs.Fonts.{set_to, face_fonts}
-use Rattle.page_scopes_words.specs.Words.{rows_value, rows_notes, columns_value, columns_notes, face_notes, says, white_cells, has_tab, shown_part}
+use Rattle.page_scopes_words.specs.Words.{rows_value, rows_notes, columns_value, columns_notes, face_notes, white_cells, has_tab, shown_part}
 use Rattle.page_scopes_words.specs.declared.fonts.Fonts.{Fonts}
 use Rattle.page_scopes_words.specs.declared.settings.Setting.{Setting}
 use Rattle.page_scopes_layout.specs.Contexts.{flat, name_ended, font_begun, first_at_margin}

@@ -48,7 +48,7 @@ fn give_space<O: PieceOut>(out: &mut O, place: Place, rows: Option<&[u8]>, state
 }
 
 // Whether a number begins with a sign.
-fn has_sign(text: &[u8]) -> bool
+fn begins_sign(text: &[u8]) -> bool
     ensures { result ≡ begins_sign text.now }
 {
     match text.first() {
@@ -63,7 +63,7 @@ fn shift_by<O: PieceOut>(out: &mut O, place: Place, text: &[u8], shift: i32) -> 
     ensures came { Came O.left out.old (columns_notes place text.now) out.new }
 {
     let columns = give_columns(out, place, text);
-    if has_sign(text) {
+    if begins_sign(text) {
         shift.saturating_add(columns)
     } else {
         columns

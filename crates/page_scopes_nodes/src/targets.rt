@@ -16,7 +16,7 @@ use page_scopes_words::report_token;
 // Gives the messages of a text's escapes, all at one place.
 fn report_escapes<O: PieceOut>(out: &mut O, quoted: bool, place: Place, text: &[u8])
     requires { length text.now ≤ LINE }
-    ensures { Came O.left out.old (targets.notes_of quoted place (tokens_of quoted text.now)) out.new }
+    ensures { Came O.left out.old (targets.tokens_notes quoted place (tokens_of quoted text.now)) out.new }
 {
     let mut tokens = Tokens::new(quoted, text);
     while let Some(token) = tokens.read() {

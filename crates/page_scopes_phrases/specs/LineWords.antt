@@ -1,7 +1,7 @@
 -- Words of a line, those that a macro prints itself, and those in the columns of a list. Source: man(7), mdoc(7).
 use Rattle.std.specs.Prelude.{Bool, false, option_map, unwrap_or, [], ◌∷◌, Some, Option, None, if◌then◌else◌, ℕ, ◌==◌, position, ◌+◌, List, length, ◌&&◌, is_some, take, drop, ◌-◌, ◌||◌, nat_lt, zero, suc, not, true}
 use Rattle.page_core_base.specs.Bytes.{ascii}
-use Rattle.page_core_base.specs.Rows.{shown, Item}
+use Rattle.page_core_base.specs.Rows.{shown, Item, says}
 use Rattle.page_core_base.specs.declared.cells.Font.{Font}
 use Rattle.page_core_base.specs.declared.note_kinds.NoteKind.TheVariants.{ItemOutside, Unterminated}
 use Rattle.page_core_base.specs.declared.pieces.Piece.TheVariants as pieces
@@ -20,7 +20,7 @@ use Rattle.page_sets_lines.specs.declared.events.Role.{Role}
 use Rattle.page_sets_lines.specs.declared.events.Role.TheVariants as roles
 use Rattle.page_sets_lines.specs.declared.events.Word.{Word}
 use Rattle.page_sets_lines.specs.declared.leaves.GeneratedWord.{GeneratedWord}
-use Rattle.page_scopes_words.specs.Words.{says, at, ends_sentence}
+use Rattle.page_scopes_words.specs.Words.{at, ends_sentence}
 use Rattle.page_scopes_layout.specs.Lists.{has_columns, next_cell}
 use Rattle.page_scopes_layout.specs.declared.contexts.Context.{Context}
 use Rattle.page_scopes_layout.specs.declared.lists.OpenList.{OpenList}

@@ -3,7 +3,7 @@ use Rattle.std.specs.List.{list_any}
 use Rattle.std.specs.Prelude.{refl, ℕ, List, nat_lt, [], ◌∷◌, length, codes, if◌then◌else◌, false, ◌==◌, Bool, ◌++◌, fold, true, ◌||◌, Option, None, Some, ◌&&◌, max}
 use Rattle.page_core_base.specs.Limits.{FIELD}
 use Rattle.page_core_base.specs.Messages.{text_front}
-use Rattle.page_core_base.specs.Rows.{Item, shown}
+use Rattle.page_core_base.specs.Rows.{Item, shown, says}
 use Rattle.page_core_base.specs.declared.cells.Font.{Font}
 use Rattle.page_core_base.specs.declared.cells.Font.TheVariants.{R, B}
 use Rattle.page_core_base.specs.declared.note_kinds.NoteKind.TheVariants.{Limit, MissingName}
@@ -17,7 +17,7 @@ use Rattle.page_sets_lines.specs.declared.events.Join.TheVariants.{Apart, Glued}
 use Rattle.page_sets_lines.specs.declared.events.Role.{Role}
 use Rattle.page_sets_lines.specs.declared.events.Role.TheVariants as roles
 use Rattle.page_scopes_words.specs.Fonts.{fonts_after}
-use Rattle.page_scopes_words.specs.Words.{says, blank_cells, token_items, has_tab, white_cells, token_prints, at}
+use Rattle.page_scopes_words.specs.Words.{blank_cells, token_items, has_tab, white_cells, token_prints, at}
 use Rattle.page_scopes_words.specs.declared.fonts.Fonts.{Fonts}
 use Rattle.page_scopes_words.specs.declared.settings.Setting.{Setting}
 use Rattle.page_scopes_layout.specs.Headings.{heading_further, in_synopsis}

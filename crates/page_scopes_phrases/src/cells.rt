@@ -168,7 +168,7 @@ fn count_blanks(text: &[u8]) -> usize
 }
 
 // A text without the blanks at its front.
-fn without_blanks(text: &[u8]) -> &[u8]
+fn after_blanks(text: &[u8]) -> &[u8]
     ensures { result.now ≡ after_blanks text.now }
 {
     &text[count_blanks(text)..]
@@ -192,7 +192,7 @@ fn other_cells<'a>(span: CellSpan, phrase: &Phrase<&'a [u8]>) -> Phrase<&'a [u8]
     requires fits { FitsAt phrase.now.column phrase.now.text.now }
     ensures { phrase_view result ≡ cells.other_cells span (phrase_view phrase.now) }
 {
-    let text = without_blanks(after_tab(&phrase.text[span.tab..]));
+    let text = after_blanks(after_tab(&phrase.text[span.tab..]));
     Phrase {
         text,
         column: phrase.column + (phrase.text.len() - text.len()) as u32,

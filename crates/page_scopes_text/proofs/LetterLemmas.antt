@@ -17,11 +17,11 @@ use Rattle.page_core_escapes.specs.Meanings as meanings
 use Rattle.page_core_escapes.specs.Meanings.{Face, is_known}
 use Rattle.page_core_escapes.specs.Tokens.{TextToken, escaped, plain, prints_itself, quotes, token_at, token_bytes, token_len}
 use Rattle.page_core_escapes.specs.laws.Views.{begins_word}
-use Rattle.page_scopes_words.specs.Words.{is_glue, token_prints, pen_after, pen_through}
+use Rattle.page_scopes_words.specs.Words.{is_glue, token_prints, pen_after, pen_through, tokens_notes}
 use Rattle.page_scopes_words.specs.declared.settings.Setting.{Setting}
 use Rattle.page_scopes_words.specs.declared.fonts.Fonts.{Fonts}
 use Rattle.page_scopes_text.proofs.PartedLemmas.{others_same, pen_more, plain_word, tokens_more, words_more}
-use Rattle.page_scopes_text.specs.Texts.{Parted, words_of, tokens_items, word_notes}
+use Rattle.page_scopes_text.specs.Texts.{Parted, words_of, tokens_items}
 use Rattle.page_scopes_words.specs.Fonts.{fonts_after}
 use Rattle.page_scopes_words.specs.machine.Letters.{letters_in}
 use Rattle.page_scopes_text.specs.machine.Letters.{Lettered, ReadsLetters, inside}
@@ -121,8 +121,8 @@ letters_more quoted fonts text mid rest cells bytes n r begins some is within t 
       less = omega (arith, r.less, left);
       others = others_same quoted rest n begins some is ∙ r.others;
       notes = λ place.
-          r.notes place ∙ ap (λ (p : Parted). word_notes quoted place p.word) words
-          ∙ ap (λ (items : List Item). items ++ word_notes quoted place later) (t.notes quoted place);
+          r.notes place ∙ ap (λ (p : Parted). tokens_notes quoted place p.word) words
+          ∙ ap (λ (items : List Item). items ++ tokens_notes quoted place later) (t.notes quoted place);
       items = λ place column after e.
           let here : (after - n) + length rest ≡ column + length text = omega (arith, e, left, within, r.less) in
           let columns : (after - n) + length (token_bytes token) ≡ after = omega (arith, e, left, within, r.less, is) in

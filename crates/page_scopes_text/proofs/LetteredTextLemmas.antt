@@ -14,7 +14,7 @@ use Rattle.page_core_base.specs.declared.pieces.Piece.TheVariants.{Blank}
 use Rattle.page_core_base.specs.declared.places.Place.{Place}
 use Rattle.page_core_escapes.specs.Tokens.{TextToken, prints_itself, token_len}
 use Rattle.page_core_escapes.specs.laws.Views.{begins_word}
-use Rattle.page_scopes_words.specs.Words.{at, gap_after, pen_after, pen_through, word_after, word_begun}
+use Rattle.page_scopes_words.specs.Words.{at, gap_after, pen_after, pen_through, word_after, word_begun, tokens_notes}
 use Rattle.page_scopes_words.specs.declared.fonts.Fonts.{Fonts}
 use Rattle.page_scopes_words.specs.declared.settings.Setting.{Setting}
 use Rattle.page_scopes_words.specs.machine.Letters.{GivesLetters, letters_in}
@@ -24,7 +24,7 @@ use Rattle.page_scopes_text.proofs.LetteredWordLemmas.{reads_after_blank, white_
 use Rattle.page_scopes_text.proofs.PartedLemmas.{blank_len}
 use Rattle.page_scopes_text.proofs.RunWordLemmas.{first_reads, one_word, run_reads}
 use Rattle.page_scopes_text.proofs.TextLemmas.{others_more, spaced_word}
-use Rattle.page_scopes_text.specs.Texts.{Spaced, words_of, others_after, others_items, spaced_items, empty_items, tokens_items, word_items, word_notes}
+use Rattle.page_scopes_text.specs.Texts.{Spaced, words_of, others_after, others_items, spaced_items, empty_items, tokens_items, word_items}
 use Rattle.page_scopes_text.specs.laws.Views.{spaced_front}
 use Rattle.page_scopes_words.specs.machine.Pens.{resting}
 use Rattle.page_scopes_words.specs.declared.pens.Pen.{Pen}
@@ -82,7 +82,7 @@ prints_word quoted place fonts column word =
     tokens_items quoted place (inside fonts column false) word ++ empty_items (pen_through (inside fonts column false) word).has_cell place
 
 -- in the text
-here_gives : (style : TextStyle) (line : ℕ) (pen : Pen) (word : List TextToken) → GoesOn style pen → word_notes style.is_quoted (at line pen.column) word ≡ []
+here_gives : (style : TextStyle) (line : ℕ) (pen : Pen) (word : List TextToken) → GoesOn style pen → tokens_notes style.is_quoted (at line pen.column) word ≡ []
     → word_items style line false pen word ≡ shown (Blank pen.gap false) ∷ prints_word style.is_quoted (at line pen.column) pen.fonts pen.column word
 here_gives style line pen word h notes =
     let quoted = style.is_quoted in
@@ -94,7 +94,7 @@ here_gives style line pen word h notes =
 
 -- and after a blank of the text
 there_gives : (style : TextStyle) (line last : ℕ) (fonts : Setting Fonts) (column : ℕ) (text : List ℕ) → style.is_literal ≡ false → begins_word text ≡ true
-    → word_notes style.is_quoted (at line (column + 1)) (words_of style.is_quoted text).word ≡ []
+    → tokens_notes style.is_quoted (at line (column + 1)) (words_of style.is_quoted text).word ≡ []
     → spaced_items style line last (resting fonts column) (spaced_front style.is_quoted (32 ∷ text))
     ≡ shown (Blank 1 false) ∷ prints_word style.is_quoted (at line (column + 1)) fonts (column + 1) (words_of style.is_quoted text).word
 there_gives style line last fonts column text literal begins notes =

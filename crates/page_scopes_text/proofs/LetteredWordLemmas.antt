@@ -12,12 +12,12 @@ use Rattle.page_core_base.specs.declared.pieces.Piece.{Piece}
 use Rattle.page_core_base.specs.declared.pieces.Piece.TheVariants.{Blank}
 use Rattle.page_core_escapes.specs.Tokens.{TextToken, token_len}
 use Rattle.page_core_escapes.specs.laws.Views.{begins_word}
-use Rattle.page_scopes_words.specs.Words.{at, pen_through, white_after, word_after}
+use Rattle.page_scopes_words.specs.Words.{at, pen_through, white_after, word_after, tokens_notes}
 use Rattle.page_scopes_words.specs.declared.settings.Setting.{Setting}
 use Rattle.page_scopes_words.specs.declared.fonts.Fonts.{Fonts}
 use Rattle.page_scopes_text.proofs.PartedLemmas.{blank_len, no_word}
 use Rattle.page_scopes_text.proofs.TextLemmas.{others_more, spaced_word}
-use Rattle.page_scopes_text.specs.Texts.{Spaced, words_of, others_after, others_items, place_after, spaced_after, spaced_items, white_items, tokens_items, word_items, word_notes}
+use Rattle.page_scopes_text.specs.Texts.{Spaced, words_of, others_after, others_items, place_after, spaced_after, spaced_items, white_items, tokens_items, word_items}
 use Rattle.page_scopes_text.specs.laws.Views.{spaced_front}
 use Rattle.page_scopes_words.specs.machine.Pens.{resting}
 use Rattle.page_scopes_words.specs.machine.Letters.{letters_in}
@@ -32,7 +32,7 @@ white_pen style fonts column = white_after style (resting fonts column) (32 ∷ 
 
 -- what a word of letters gives
 word_gives : (style : TextStyle) (line : ℕ) (fonts next : Setting Fonts) (column after : ℕ) (word : List TextToken) (pieces : List (Piece (List ℕ))) → style.is_literal ≡ false
-    → word_notes style.is_quoted (at line (column + 1)) word ≡ []
+    → tokens_notes style.is_quoted (at line (column + 1)) word ≡ []
     → tokens_items style.is_quoted (at line (column + 1)) (inside fonts (column + 1) false) word ≡ map shown pieces
     → pen_through (inside fonts (column + 1) false) word ≡ inside next after true
     → white_items style (place_after line (resting fonts column) (32 ∷ [])) (32 ∷ []) ++ word_items style line false (white_pen style fonts column) word
@@ -79,7 +79,7 @@ word_reads style fonts tail next rest cells literal begins ends some r =
       gives = λ line last column after e.
           let i = r.items (at line (column + 1)) (column + 1) after (omega (arith, e)) in
           let items : tokens_items quoted (at line (column + 1)) (inside fonts (column + 1) false) word ≡ map shown i.0 = i.3 ∙ rw none (append-nil (map shown i.0)) in
-          let notes : word_notes quoted (at line (column + 1)) word ≡ [] = r.notes (at line (column + 1)) ∙ rw none refl in
+          let notes : tokens_notes quoted (at line (column + 1)) word ≡ [] = r.notes (at line (column + 1)) ∙ rw none refl in
           let first : spaced_items style line last (resting fonts column) (spaced_front quoted (32 ∷ tail)) ≡ shown (Blank 1 false) ∷ map shown i.0 =
           (spaced_word style line last (resting fonts column) (32 ∷ tail) (32 ∷ []) tail 1 (sym one) refl refl begins).0
           ∙ word_gives style line fonts next column after word i.0 literal notes items (through column after e) in (

@@ -6,7 +6,7 @@ use Rattle.page_core_base.specs.declared.cells.Font.TheVariants.{R}
 use Rattle.page_core_base.specs.declared.pieces.Piece.TheVariants.{Text, Blank, Break}
 use Rattle.page_core_base.specs.declared.places.Place.{Place}
 use Rattle.page_core_escapes.specs.Tokens.{TextToken, white, tokens_of, plain, tokens_len}
-use Rattle.page_scopes_words.specs.Words.{token_notes, token_items, pen_after, pen_through, word_begun, blank_cells, at, gap_after, white_cells, has_tab, white_after, word_after, indented_pen, has_gap_cells, body_after}
+use Rattle.page_scopes_words.specs.Words.{tokens_notes, token_items, pen_after, pen_through, word_begun, blank_cells, at, gap_after, white_cells, has_tab, white_after, word_after, indented_pen, has_gap_cells, body_after}
 use Rattle.page_scopes_words.specs.declared.pens.Pen.{Pen}
 use Rattle.page_scopes_words.specs.declared.pens.TextStyle.{TextStyle}
 
@@ -36,12 +36,6 @@ abbrev pub words_of : Bool → List ℕ → Parted
 words_of quoted text = parted (tokens_of quoted text)
 
 -- ---- A word as pieces and messages. Source: roff(7), "ESCAPE SEQUENCES"; mandoc(1), "DIAGNOSTICS".
-
--- ---- messages
-
-abbrev pub word_notes : (quoted : Bool) → Place → List TextToken → List Item
-word_notes quoted place [] = []
-word_notes quoted place (token ∷ tokens) = token_notes quoted place token ++ word_notes quoted place tokens
 
 -- ---- what tokens of a word print
 
@@ -79,7 +73,7 @@ gap_items style has_tab place pen =
 -- a word's messages come first; then the blanks before it, and what it prints
 abbrev pub word_items : TextStyle → ℕ → Bool → Pen → List TextToken → List Item
 word_items style line has_tab pen word =
-    word_notes style.is_quoted (at line pen.column) word
+    tokens_notes style.is_quoted (at line pen.column) word
     ++ (gap_items style has_tab (at line pen.column) pen ++ body_items style.is_quoted (at line pen.column) (gap_after style pen) word)
 
 -- ---- A text as pieces and messages: its words, and the white space between them. Source: roff(7), "LANGUAGE SYNTAX"; mandoc(1), "DIAGNOSTICS".
@@ -138,7 +132,7 @@ is_indented style = style.is_line && not style.is_literal
 abbrev pub indented_items : (quoted : Bool) → ℕ → Pen → Spaced → List Item
 indented_items quoted line pen part =
     shown Break
-    ∷ (word_notes quoted (place_after line pen part.white) part.word
+    ∷ (tokens_notes quoted (place_after line pen part.white) part.word
     ++ (white_cells (place_after line pen part.white) part.white
     ++ body_items quoted (place_after line pen part.white) (indented_pen pen part.white) part.word))
 

@@ -3,12 +3,10 @@ use Rattle.std.specs.Option.{option_to_list}
 use Rattle.std.specs.Prelude.{ℕ, List, Bool, nat_lt, length, if◌then◌else◌, ◌&&◌, nat_le, zero, suc, Some, false, [], ◌∷◌, true, ◌||◌, not, ◌==◌, codes, Option, None, map}
 use Rattle.std.specs.Str.{bytes_eq}
 use Rattle.page_core_base.specs.Limits.{SCOPES, name_of}
-use Rattle.page_core_base.specs.Messages.{message_about}
-use Rattle.page_core_base.specs.Rows.{Item, noted}
+use Rattle.page_core_base.specs.Rows.{Item, says}
 use Rattle.page_core_base.specs.declared.limits.Limit.TheVariants as limits
 use Rattle.page_core_base.specs.declared.note_kinds.NoteKind.{NoteKind}
 use Rattle.page_core_base.specs.declared.note_kinds.NoteKind.TheVariants as note_kinds
-use Rattle.page_core_base.specs.declared.places.Place.{Place}
 use Rattle.page_sets_names.specs.Names.{link_closer_name}
 use Rattle.page_sets_lines.specs.Blocks.{opened_block, block_closer_name, closed_block}
 use Rattle.page_sets_lines.specs.declared.blocks.BlockOpener.TheVariants as block_openers
@@ -214,9 +212,6 @@ page_end_broken _ = None
 abbrev pub broken : Act (Event (List ℕ)) → Label → Option NoteKind
 broken (acts.Event event) label = end_broken event.kind (label_row label).end
 broken (acts.PageEnd line) label = page_end_broken (label_row label).end
-
-abbrev pub says : NoteKind → Place → List ℕ → Item
-says kind place detail = noted (message_about kind place detail)
 
 -- the message of a scope that an act ends
 abbrev pub broken_notes : Act (Event (List ℕ)) → Label → List Item

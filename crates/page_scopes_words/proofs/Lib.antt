@@ -3,4 +3,3 @@ pub mod FrontLemmas
 pub mod LetterCellLemmas
 pub mod RunEndLemmas
 pub mod BlankCountLemmas
-pub mod CharacterLemmas

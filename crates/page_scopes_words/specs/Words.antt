@@ -2,16 +2,13 @@
 use Rattle.std.specs.List.{list_any}
 use Rattle.std.specs.Option.{option_to_list, option_map_or}
 use Rattle.std.specs.Prelude.{codes, flat_map, ℕ, List, Bool, if◌then◌else◌, [], ◌∷◌, take, ◌==◌, ◌&&◌, Option, None, Some, map, true, false, ℤ, pos, int_div, ◌/◌, negsuc, min, nat_lt, ◌++◌, replicate, is_some, ◌+◌, ◌||◌, length, max, ◌-◌, slice_get}
-use Rattle.std.specs.Str.{chars, is_utf8}
 use Rattle.page_core_base.specs.Bytes.{is_white, ascii}
 use Rattle.page_core_base.specs.Limits.{BLANKS, name_of}
-use Rattle.page_core_base.specs.Messages.{message_about}
-use Rattle.page_core_base.specs.Rows.{Item, noted, shown}
-use Rattle.page_core_base.specs.Texts.{unpaired}
+use Rattle.page_core_base.specs.Rows.{Item, noted, says, shown}
+use Rattle.page_core_base.specs.Texts.{characters_of, unpaired}
 use Rattle.page_core_base.specs.declared.cells.Font.{Font}
 use Rattle.page_core_base.specs.declared.cells.Font.TheVariants.{R}
 use Rattle.page_core_base.specs.declared.limits.Limit.TheVariants as limits
-use Rattle.page_core_base.specs.declared.note_kinds.NoteKind.{NoteKind}
 use Rattle.page_core_base.specs.declared.note_kinds.NoteKind.TheVariants.{UnknownFont, UndefEscape, BadEscape, UnsuppEscape, Limit}
 use Rattle.page_core_base.specs.declared.page_settings.Output.{Output}
 use Rattle.page_core_base.specs.declared.page_settings.Output.TheVariants.{Ascii}
@@ -35,10 +32,6 @@ use Rattle.page_scopes_words.specs.declared.pens.TextStyle.{TextStyle}
 
 abbrev pub at : ℕ → ℕ → Place
 at line column = record { line = line; column = column }
-
--- a message about a place
-abbrev pub says : NoteKind → Place → List ℕ → Item
-says kind place detail = noted (message_about kind place detail)
 
 -- ---- messages of an escape
 
@@ -77,15 +70,11 @@ token_piece font place _ = None
 
 -- ---- the characters that a token prints
 
--- the characters of a text; bytes that are not UTF-8 have none
-abbrev pub characters_of : List ℕ → List ℕ
-characters_of bytes = if is_utf8 bytes then chars bytes else []
-
 -- what characters that print themselves print in an output
 abbrev pub plain_printed : Output → List ℕ → List ℕ
 plain_printed output cs = flat_map (λ c. (char_printed output c).characters) cs
 
--- a token; a tab is a blank (32)
+-- a token; a tab is a blank
 abbrev pub token_printed : Output → TextToken → List ℕ
 token_printed output (white bytes) = replicate (length bytes) (ascii " ")
 token_printed output (plain bytes) = plain_printed output (characters_of bytes)
@@ -154,6 +143,11 @@ abbrev pub token_notes : (quoted : Bool) → Place → TextToken → List Item
 token_notes quoted place (escaped bytes (meanings.blanks expression)) = number_notes Em place expression
 token_notes quoted place (escaped bytes meaning) = meaning_notes quoted place bytes meaning
 token_notes quoted place _ = []
+
+-- those of tokens, all at one place
+abbrev pub tokens_notes : (quoted : Bool) → Place → List TextToken → List Item
+tokens_notes quoted place [] = []
+tokens_notes quoted place (token ∷ tokens) = token_notes quoted place token ++ tokens_notes quoted place tokens
 
 -- ---- what a token prints
 

@@ -2,11 +2,10 @@
 
 ghost use Rattle.std.specs.Prelude.{◌≡◌, ℕ, List, ◌==◌, ◌∷◌, [], ◌≤◌, false, if◌then◌else◌, option_map};
 ghost use Rattle.page_core_base.specs.laws.Views.{Came, piece_of};
-ghost use Rattle.page_core_base.specs.Rows.{shown};
+ghost use Rattle.page_core_base.specs.Rows.{shown, says};
 ghost use Rattle.page_core_escapes.specs.laws.Views.{face_view, meaning_view, token_view};
 ghost use Rattle.page_core_escapes.specs.Tokens.{escaped, is_space};
 ghost use Rattle.page_scopes_words.specs.Words as tokens;
-ghost use Rattle.page_scopes_words.specs.Words.{says};
 ghost use Rattle.std.specs.List.{list_any};
 
 use crate::numbers::give_number;

@@ -1,6 +1,7 @@
 -- The definitions that the worked pages open, under short names. Written by tools/worked.
 unfoldable pub use Rattle.page_core_base.specs.Messages.{text_front as u0}
 unfoldable pub use Rattle.page_core_base.specs.Rows.{parts_after as u1}
+unfoldable pub use Rattle.page_core_base.specs.Texts.{characters_of as u83}
 unfoldable pub use Rattle.page_core_base.specs.laws.Views.{blank_words as u2, word_pieces as u3, word_items as u4, lettered_cells as u5, lettered_pieces as u6}
 unfoldable pub use Rattle.page_core_escapes.specs.Lengths.{letter_of as u7, quoted_len as u8, extent_len as u9, escape_len_by as u10, content_len_within as u11, content_len as u12, escape_len as u13}
 unfoldable pub use Rattle.page_core_escapes.specs.Meanings.{face_of as u14, first_char as u15, meaning_of as u16, escape_of as u17}
@@ -23,7 +24,6 @@ unfoldable pub use Rattle.page_engine_records.specs.Records.{without_front as u6
 unfoldable pub use Rattle.page_fill.specs.Filled.{first_word as u72, outcome as u73, filling as u74}
 unfoldable pub use Rattle.page_fill.specs.Filling.{groups as u75, other_laid as u76, groups_laid as u77}
 unfoldable pub use Rattle.page_fill.specs.Words.{text_content as u78, words_of as u79, word_after_items as u80, words_laid as u81, content_laid as u82}
-unfoldable pub use Rattle.page_fill_rows.specs.OpenRows.{characters_of as u83}
 unfoldable pub use Rattle.page_fill_rows.specs.laws.Views.{character as u84, characters as u85, glyph as u86}
 unfoldable pub use Rattle.page_roff_blocks.specs.Forest.{outside as u87, bit_after as u88, first_place as u89, before as u90, enclose as u91, enregion as u92, keep as u93, line_of as u94, region_line as u95, source_of as u96, inside_of as u97}
 unfoldable pub use Rattle.page_roff_blocks.specs.Parts.{written_part as u98, left_of as u99, len_of as u100, loop_text as u101, first_text as u102, part_of as u103, line_parts as u104}
@@ -38,10 +38,11 @@ unfoldable pub use Rattle.page_roff_heads.specs.Heads.{guarded_of as u157, condi
 unfoldable pub use Rattle.page_roff_lines.specs.Lines.{read as u162, read_pair as u163, join_texts as u164, logical_lines as u165, decode_line as u166}
 unfoldable pub use Rattle.page_roff_lines.specs.laws.Cutting.{encoding_after as u167, point_at as u168, next_point as u169, end_point as u170, line_at as u171, lines_within as u172, point_after as u173}
 unfoldable pub use Rattle.page_roff_names.specs.Names.{predefined as u174, first_passed as u175}
-unfoldable pub use Rattle.page_roff_parts.specs.Parts.{content_len as u176, seen as u177, parts_up_to as u178, parts as u179, without_lone as u180}
+unfoldable pub use Rattle.page_roff_parts.specs.Parts.{seen as u177, parts_up_to as u178, parts as u179, without_lone as u180}
 unfoldable pub use Rattle.page_roff_source.specs.Runs.{after as u181, spend as u182, reread as u183, page_line as u184, mode_by as u185, are_run as u186, meet as u187, gather_line as u188, test as u189, value as u190, enter_if as u191, enter_run as u192, enter as u193, leave_level as u194, leave_by as u195, leave as u196, leaf_after as u197, loop_after as u198, guard_after as u199, line_after as u200, region_line as u201, region_lines as u202, region_end as u203, open_region as u204, region_after as u205, run as u206, run_source as u207, run_inside as u208, run_from as u209, run_body as u210, turns as u211, run_product as u212, runs_at as u213, run_page as u214, run_all as u215}
 unfoldable pub use Rattle.page_roff_source.specs.laws.Views.{line_count as u216}
 unfoldable pub use Rattle.page_roff_syntax.specs.Arguments.{arguments as u217}
+unfoldable pub use Rattle.page_roff_syntax.specs.Delimiters.{width_content_len as u176}
 unfoldable pub use Rattle.page_roff_syntax.specs.Regions.{region_head as u218, is_ending as u219, within_limit as u220, opened as u221}
 unfoldable pub use Rattle.page_roff_syntax.specs.Requests.{request_of as u222}
 unfoldable pub use Rattle.page_roff_values.specs.Answers.{condition_answer as u223}

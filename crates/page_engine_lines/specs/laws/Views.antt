@@ -1,7 +1,7 @@
 -- What contracts of the code say by the definitions, and what is proved of these.
 use Rattle.std.specs.Prelude.{ℕ, List, Bool, ◌&&◌, [], if◌then◌else◌, ◌++◌, ◌∷◌, ◌≡◌, ◌≤◌, length}
 use Rattle.page_core_base.specs.Limits.{FIELD}
-use Rattle.page_core_base.specs.Rows.{Item}
+use Rattle.page_core_base.specs.Rows.{Item, says}
 use Rattle.page_core_base.specs.Texts.{TakenLine}
 use Rattle.page_core_base.specs.laws.Views.{Came}
 use Rattle.page_core_base.specs.declared.note_kinds.NoteKind.TheVariants.{NoBody}
@@ -12,7 +12,7 @@ use Rattle.page_sets_lines.specs.declared.events.EventKind.{EventKind}
 use Rattle.page_sets_lines.specs.declared.events.EventKind.TheVariants.{Leaf}
 use Rattle.page_sets_lines.specs.declared.leaves.Leaf.TheVariants.{Prologue}
 use Rattle.page_sets_lines.specs.declared.plain_lines.PlainLine.{PlainLine}
-use Rattle.page_scopes_words.specs.Words.{at, says}
+use Rattle.page_scopes_words.specs.Words.{at}
 use Rattle.page_scopes.specs.Bodies.{PageEdge}
 use Rattle.page_scopes.specs.laws.Views as scopes
 use Rattle.page_scopes.specs.laws.Views.{ScopesFit}

@@ -2,14 +2,14 @@
 -- then this end, is the law `tree_law`, and trust needs no reading of this. Source: roff(7), "LANGUAGE SYNTAX"; mandoc(1), "DIAGNOSTICS".
 use Rattle.std.specs.Prelude.{ℕ, ◌+◌, nat_lt, List, [], ◌∷◌, ◌++◌, length, map, if◌then◌else◌}
 use Rattle.page_core_base.specs.Bytes.{is_white}
-use Rattle.page_core_base.specs.Rows.{Item, noted}
+use Rattle.page_core_base.specs.Rows.{Item, noted, says}
 use Rattle.page_core_base.specs.declared.note_kinds.NoteKind.TheVariants.{TrailingBlank}
 use Rattle.page_roff_syntax.specs.Delimiters.{kept_len}
 use Rattle.page_roff_source.specs.Runs as roff
 use Rattle.page_roff_source.specs.machine.Taking as taking
 use Rattle.page_roff_source.specs.Runs.{SourceLine}
 use Rattle.page_engine_lines.specs.laws.Views as bodies
-use Rattle.page_scopes_words.specs.Words.{at, says}
+use Rattle.page_scopes_words.specs.Words.{at}
 use Rattle.page_engine_lines.specs.Edges.{LinesEdge}
 use Rattle.page_engine_lines.specs.machine.Given.{given_items, body_after}
 

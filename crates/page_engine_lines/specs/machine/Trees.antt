@@ -3,7 +3,7 @@
 use Rattle.std.specs.Prelude.{ℕ, Bool, List, [], ◌∷◌, ◌++◌, map, if◌then◌else◌}
 use Rattle.std.specs.List.{flat_map}
 use Rattle.page_core_base.specs.Messages.{Message}
-use Rattle.page_core_base.specs.Rows.{Item, noted}
+use Rattle.page_core_base.specs.Rows.{Item, noted, says}
 use Rattle.page_core_base.specs.declared.note_kinds.NoteKind.TheVariants.{NoBody}
 use Rattle.page_core_base.specs.declared.places.Place.{Place}
 use Rattle.page_scopes.specs.Bodies.{begins}
@@ -19,7 +19,7 @@ use Rattle.page_scopes_tree.specs.machine.Frames.{framed}
 use Rattle.page_scopes_tree.specs.machine.Nests.{Fact, coming, scopes_nesting}
 use Rattle.page_scopes_tree.specs.declared.acts.Act.TheVariants as acts
 use Rattle.page_scopes_labels.specs.declared.labels.Label.{Label}
-use Rattle.page_scopes_words.specs.Words.{at, says}
+use Rattle.page_scopes_words.specs.Words.{at}
 use Rattle.page_sets_lines.specs.declared.events.EventKind.{EventKind}
 use Rattle.page_sets_lines.specs.declared.events.EventKind.TheVariants.{Leaf}
 use Rattle.page_sets_lines.specs.declared.events.Event.{Event}

@@ -3,11 +3,12 @@
 use Rattle.std.specs.Prelude.{ℕ, Bool, true, false, ◌==◌, nat_lt, if◌then◌else◌, List, [], ◌∷◌, ◌++◌, length, take, codes, Option, Some, None}
 use Rattle.std.specs.Str.{bytes_eq}
 use Rattle.page_core_base.specs.Rows.{Item, shown, noted}
+use Rattle.page_core_base.specs.Texts.{characters_of}
 use Rattle.page_core_base.specs.declared.page_settings.Output.TheVariants.{Ascii}
 use Rattle.page_core_base.specs.declared.pieces.Piece.{Piece}
 use Rattle.page_core_base.specs.declared.pieces.Piece.TheVariants.{Text, Glyph, Char, Tab, Glue, Split, Para, Indent, Literal, Tag, Heading}
 use Rattle.page_core_tables.specs.Glyphs.{char_printed, glyph_printed}
-use Rattle.page_scopes_words.specs.Words.{characters_of, plain_printed}
+use Rattle.page_scopes_words.specs.Words.{plain_printed}
 use Rattle.page_engine_records.specs.NameTexts.{TEXT}
 use Rattle.page_engine_records.specs.declared.name_readers.NameReader.{NameReader}
 use Rattle.page_engine_records.specs.declared.name_readers.Side.{Side}
@@ -19,7 +20,7 @@ use Rattle.page_engine_records.specs.declared.name_readers.Side.TheVariants.{Bef
 abbrev pub with_byte : List ℕ → ℕ → List ℕ
 with_byte text byte = take TEXT (text ++ (byte ∷ []))
 
--- a blank (32) that waits is before the next character, but at no text's front
+-- a blank that waits is before the next character, but at no text's front
 abbrev pub spaced : (is_apart : Bool) → List ℕ → List ℕ
 spaced is_apart [] = []
 spaced true (byte ∷ bytes) = with_byte (byte ∷ bytes) 32

@@ -2,13 +2,14 @@
 -- what they lay. A start is what is held between two pieces; from it and a list of pieces follow the rows and messages that are settled,
 -- and what is held then. Source: roff(7), "Filling and adjusting"; mandoc(1).
 use Rattle.std.specs.Prelude.{ℕ, ◌+◌, ◌-◌, ◌%◌, Bool, true, not, ◌&&◌, ◌||◌, ◌==◌, nat_lt, nat_le, min, List, [], ◌∷◌, length, Option, None, Some, if◌then◌else◌}
+use Rattle.page_core_base.specs.Texts.{characters_of}
 use Rattle.page_core_base.specs.declared.cells.Cell.{Cell}
 use Rattle.page_core_base.specs.declared.cells.Font.{Font}
 use Rattle.page_core_base.specs.declared.pieces.Piece.{Piece}
 use Rattle.page_core_base.specs.declared.pieces.Piece.TheVariants.{Text, Glyph, Char, Tab, Blank, Glue, Split, Break, RowEnd, Para, Space, Indent, Literal, Tag, TagEnd, Heading, Column}
 use Rattle.page_core_base.specs.declared.places.Place.{Place}
 use Rattle.page_core_base.specs.Rows.{Laid, nothing, seq}
-use Rattle.page_fill_rows.specs.OpenRows.{Sheet, over, with_notes, characters_of}
+use Rattle.page_fill_rows.specs.OpenRows.{Sheet, over, with_notes}
 use Rattle.page_fill_cells.specs.Cells.{columns, cell_of}
 use Rattle.page_fill_rows.specs.machine.Sheets.{letter, fixed_blanks, new_word, opens, broken, empty_rows}
 use Rattle.page_fill_rows.specs.laws.Views.{characters, character, glyph}

@@ -4,7 +4,7 @@ use Rattle.page_core_base.specs.declared.cells.Cell.{Cell}
 use Rattle.page_core_base.specs.declared.cells.Font.{Font}
 use Rattle.page_fill_cells.specs.Cells.{cell_of}
 
--- the byte of a blank (32)
+-- the byte of a blank
 abbrev pub is_blank_byte : ℕ → Bool
 is_blank_byte byte = byte == 32
 

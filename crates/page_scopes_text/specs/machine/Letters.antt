@@ -11,11 +11,11 @@ use Rattle.page_core_base.specs.declared.pieces.Piece.{Piece}
 use Rattle.page_core_base.specs.declared.places.Place.{Place}
 use Rattle.page_core_escapes.specs.Tokens.{TextToken, token_at, token_len}
 use Rattle.page_core_escapes.specs.laws.Views.{begins_word}
-use Rattle.page_scopes_words.specs.Words.{is_glue, token_notes, token_prints, pen_through}
+use Rattle.page_scopes_words.specs.Words.{is_glue, token_notes, token_prints, pen_through, tokens_notes}
 use Rattle.page_scopes_words.specs.machine.Letters.{letters_in}
 use Rattle.page_scopes_words.specs.declared.settings.Setting.{Setting}
 use Rattle.page_scopes_words.specs.declared.fonts.Fonts.{Fonts}
-use Rattle.page_scopes_text.specs.Texts.{Spaced, words_of, others_after, others_items, printed_items, tokens_items, word_notes}
+use Rattle.page_scopes_text.specs.Texts.{Spaced, words_of, others_after, others_items, printed_items, tokens_items}
 use Rattle.page_scopes_words.specs.Fonts.{fonts_after}
 use Rattle.page_scopes_words.specs.machine.Pens.{resting}
 use Rattle.page_scopes_words.specs.declared.pens.Pen.{Pen}
@@ -46,7 +46,7 @@ inside fonts column has_cell = record {
 pub record ReadsLetters (quoted : Bool) (fonts : Setting Fonts) (text : List ℕ) (next : Setting Fonts) (rest : List ℕ) (cells : List Cell) : Type 0 where
   pub less : length rest ≤ length text
   pub others : (words_of quoted rest).others ≡ (words_of quoted text).others
-  pub notes : (place : Place) → word_notes quoted place (words_of quoted text).word ≡ word_notes quoted place (words_of quoted rest).word
+  pub notes : (place : Place) → tokens_notes quoted place (words_of quoted text).word ≡ tokens_notes quoted place (words_of quoted rest).word
   pub items : (place : Place) (column after : ℕ) → after + length rest ≡ column + length text → (pieces : List (Piece (List ℕ)))
       × (list_all is_lettered pieces ≡ true) × (word_letters pieces ≡ cells)
       × (tokens_items quoted place (inside fonts column false) (words_of quoted text).word
@@ -73,7 +73,7 @@ pub record ReadsWords (style : TextStyle) (fonts : Setting Fonts) (text : List �
 abbrev pub PrintsFirst : Bool → Setting Fonts → List ℕ → Type 0
 PrintsFirst quoted fonts text =
     ((column : ℕ) → (pen_through (inside fonts column false) (words_of quoted text).word).has_cell ≡ true)
-    × ((place : Place) → word_notes quoted place (words_of quoted text).word ≡ [])
+    × ((place : Place) → tokens_notes quoted place (words_of quoted text).word ≡ [])
 
 -- words of letters, which are these cells, were read at a text's front, after a blank
 pub record ReadsAfterBlank (style : TextStyle) (fonts : Setting Fonts) (text : List ℕ) (next : Setting Fonts) (rest : List ℕ) (cells : List Cell) : Type 0 where

@@ -23,7 +23,7 @@ use Rattle.page_sets_lines.specs.declared.openers.Closer.TheVariants as closers
 use Rattle.page_sets_lines.specs.declared.openers.Opener.{Opener}
 use Rattle.page_sets_lines.specs.declared.openers.Opener.TheVariants as openers
 
--- the byte around an argument (34)
+-- the byte around an argument
 abbrev pub is_quote : ℕ → Bool
 is_quote byte = byte == 34
 

@@ -5,16 +5,16 @@ use Rattle.page_core_escapes.specs.laws.Views.{begins_word}
 use Rattle.page_core_escapes.specs.Tokens.{token_at, token_bytes, token_len}
 use Rattle.page_core_escapes.proofs.TokenLemmas.{word_some}
 use Rattle.page_scopes_text.proofs.PartedLemmas.{words_more, no_word}
-use Rattle.page_scopes_text.specs.Texts.{Parted, words_of, word_notes}
-use Rattle.page_scopes_words.specs.Words.{token_notes}
+use Rattle.page_scopes_text.specs.Texts.{Parted, words_of}
+use Rattle.page_scopes_words.specs.Words.{token_notes, tokens_notes}
 use Rattle.page_scopes_text.proofs.words.report_word.Goals as goal
 
 notes_more : (quoted : Bool) (place : Place) (text : List ℕ) (n : ℕ) → begins_word text ≡ true → 0 < n → n ≡ token_len quoted text
-    → word_notes quoted place (words_of quoted text).word ≡ token_notes quoted place (token_at quoted text) ++ word_notes quoted place (words_of quoted (drop n text)).word
-notes_more quoted place text n h k e = ap (λ (t : Parted). word_notes quoted place t.word) (words_more quoted text n h k e)
+    → tokens_notes quoted place (words_of quoted text).word ≡ token_notes quoted place (token_at quoted text) ++ tokens_notes quoted place (words_of quoted (drop n text)).word
+notes_more quoted place text n h k e = ap (λ (t : Parted). tokens_notes quoted place t.word) (words_more quoted text n h k e)
 
-notes_none : (quoted : Bool) (place : Place) (text : List ℕ) → begins_word text ≡ false → word_notes quoted place (words_of quoted text).word ≡ []
-notes_none quoted place text h = ap (word_notes quoted place) (no_word quoted text h)
+notes_none : (quoted : Bool) (place : Place) (text : List ℕ) → begins_word text ≡ false → tokens_notes quoted place (words_of quoted text).word ≡ []
+notes_none quoted place text h = ap (tokens_notes quoted place) (no_word quoted text h)
 
 pub loop-rest-smaller : goal.loop-rest-smaller
 loop-rest-smaller g c =

@@ -1,5 +1,5 @@
 use Rattle.std.proofs.Common.{sym}
-use Rattle.page_scopes_words.proofs.CharacterLemmas.{characters_of-text, characters_of-none}
+use Rattle.page_core_base.proofs.CharacterLemmas.{characters_of-text, characters_of-none}
 use Rattle.page_engine_records.proofs.ReaderLemmas.{characters_none}
 use Rattle.page_engine_records.proofs.name_readers.NameReader.take_bytes.Goals as goal
 
