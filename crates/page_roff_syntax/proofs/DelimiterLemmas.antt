@@ -1,5 +1,5 @@
 -- Where a search finds a delimiter, and whether a pair takes it: helpers of proofs.
-use Rattle.std.proofs.Common.{◌≡◌, ◌≢◌, ℕ, zero, suc, ◌+◌, ◌<◌, ◌≤◌, ◌==◌, nat_eq, nat_lt, Bool, true, false, List, [], ◌∷◌, None, Some, length, take, drop, if◌then◌else◌, refl, sym, ap, ◌∙◌, inl, inr, arith, length-drop, length-take}
+use Rattle.std.proofs.Common.{◌≡◌, ◌≢◌, ℕ, zero, suc, ◌+◌, ◌<◌, ◌≤◌, ◌==◌, nat_eq, nat_lt, Bool, true, false, List, [], ◌∷◌, Option, None, Some, length, take, drop, if◌then◌else◌, refl, sym, ap, ◌∙◌, inl, inr, arith, length-drop, length-take}
 use Rattle.std.specs.List.{starts_with}
 use Rattle.std.specs.Option.{option_map_or}
 use Rattle.std.specs.Cmp.Lexicographic.{same_text, bytes_decides}
@@ -7,7 +7,8 @@ use Rattle.std.proofs.lemmas.Bool.Decides.{nat_tests}
 use Rattle.std.proofs.lemmas.Bool.{cases_Bool, eqb-true}
 use Rattle.memchr.specs.Find.{OccursAt, FindsNeedle}
 use Rattle.memchr.proofs.lemmas.MatchLemmas.{OccursAt-part, OccursAt-from_part}
-use Rattle.page_roff_syntax.specs.Delimiters.{character_len, content_len, delimiter_of, place_of}
+use Rattle.page_core_base.specs.Bytes.{begins_escape}
+use Rattle.page_roff_syntax.specs.Delimiters.{character_len, content_len, delimiter_of, place_of, width_content_len}
 use Rattle.page_roff_syntax.specs.machine.Closed.{is_outside}
 
 -- a delimiter is at none of the first n places
@@ -173,3 +174,8 @@ pub quoted_none : (text delimiter inner : List ℕ) (m n : ℕ) → m ≡ charac
 quoted_none text delimiter inner m n a b e f h =
     let t : nat_lt n (length inner) ≡ false = grind (arith, nat_tests) in
     rw (← a, ← b, ← e, ← f, t) refl
+
+pub width_content : (text delimiter inner : List ℕ) (m : ℕ) (r : Option ℕ) → begins_escape text ≡ false → m ≡ character_len text → delimiter ≡ take m text
+    → inner ≡ drop m text → r ≡ content_len delimiter inner → r ≡ width_content_len text
+unfolding width_content_len
+width_content text delimiter inner m r p a b e f = rw (p, ← a, ← b, ← e) f

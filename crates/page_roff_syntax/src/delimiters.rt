@@ -90,7 +90,6 @@ pub fn begins_escape(text: &[u8]) -> bool
 
 /// How many bytes are between a width's delimiters, of which the first character is one (roff(7), `\w`). None where the second is missing;
 /// a backslash begins a pair, so it is none.
-#[tactic(auto, unfolding(crate::specs::Delimiters::width_content_len))]
 pub fn width_content_len(text: &[u8]) -> Option<usize>
     ensures value { result ≡ width_content_len text.now }
     ensures within { IfSome result (λ len. character_len text.now + len + character_len text.now ≤ length text.now) }
