@@ -1,29 +1,29 @@
 -- The definitions that the worked pages open, under short names. Written by tools/worked.
 unfoldable pub use Rattle.page_core_base.specs.Messages.{text_front as u0}
 unfoldable pub use Rattle.page_core_base.specs.Rows.{parts_after as u1}
-unfoldable pub use Rattle.page_core_base.specs.Texts.{characters_of as u83}
-unfoldable pub use Rattle.page_core_base.specs.laws.Views.{blank_words as u2, word_pieces as u3, word_items as u4, lettered_cells as u5, lettered_pieces as u6}
-unfoldable pub use Rattle.page_core_escapes.specs.Lengths.{letter_of as u7, quoted_len as u8, extent_len as u9, escape_len_by as u10, content_len_within as u11, content_len as u12, escape_len as u13}
-unfoldable pub use Rattle.page_core_escapes.specs.Meanings.{face_of as u14, first_char as u15, meaning_of as u16, escape_of as u17}
-unfoldable pub use Rattle.page_core_escapes.specs.Tokens.{token_at as u18, tokens_of as u19}
-unfoldable pub use Rattle.page_core_numbers.specs.Columns.{printed_within as u20}
-unfoldable pub use Rattle.page_core_numbers.specs.Expressions.{units_of as u21, number_at as u22, operator_at as u23, result_of as u24, operand_by as u25, operations_at as u26, expression_by as u27, expression_within as u28}
-unfoldable pub use Rattle.page_core_tables.specs.Glyphs.{table as u29, symbol_at as u30, glyph_of as u31, first_spelling as u32, spelling_of as u33}
-unfoldable pub use Rattle.page_engine.specs.Page.{shown_rows as u34, reported as u35, worst_of as u36, settled as u37, page as u38}
-unfoldable pub use Rattle.page_engine_header.specs.Header.{row_characters as u39, in_rows as u40, row_items as u41}
-unfoldable pub use Rattle.page_engine_index.specs.Entries.{lines as u42, whole_lines as u43, version_of as u44, entry_of as u45, index_from as u46}
-unfoldable pub use Rattle.page_engine_index.specs.Fields.{is_field as u47}
-unfoldable pub use Rattle.page_engine_index.specs.Matches.{matches_in as u48, names_of as u49, has_match as u50}
-unfoldable pub use Rattle.page_engine_index.specs.Whatis.{is_shown as u51, row_of as u52}
-unfoldable pub use Rattle.page_engine_lines.specs.Bodies.{language_of as u53, footer_items as u54}
-unfoldable pub use Rattle.page_engine_lines.specs.Trees.{tree as u55, step_gave as u56, lay as u57, lay_outer as u58}
-unfoldable pub use Rattle.page_engine_lines.specs.laws.Views.{event_items as u59, event_after as u60, events_items as u61, events_after as u62, end_items as u63}
-unfoldable pub use Rattle.page_engine_records.specs.NameTexts.{signs_of as u64, after_name as u65, name_text as u66}
-unfoldable pub use Rattle.page_engine_records.specs.PageRecords.{record_of_lines as u67}
-unfoldable pub use Rattle.page_engine_records.specs.Records.{without_front as u68, with_names as u69, begins_dash as u70, dash_place as u71}
-unfoldable pub use Rattle.page_fill.specs.Filled.{first_word as u72, outcome as u73, filling as u74}
-unfoldable pub use Rattle.page_fill.specs.Filling.{groups as u75, other_laid as u76, groups_laid as u77}
-unfoldable pub use Rattle.page_fill.specs.Words.{text_content as u78, words_of as u79, word_after_items as u80, words_laid as u81, content_laid as u82}
+unfoldable pub use Rattle.page_core_base.specs.Texts.{characters_of as u2}
+unfoldable pub use Rattle.page_core_base.specs.laws.Views.{blank_words as u3, word_pieces as u4, word_items as u5, lettered_cells as u6, lettered_pieces as u7}
+unfoldable pub use Rattle.page_core_escapes.specs.Lengths.{letter_of as u8, quoted_len as u9, extent_len as u10, escape_len_by as u11, content_len_within as u12, content_len as u13, escape_len as u14}
+unfoldable pub use Rattle.page_core_escapes.specs.Meanings.{face_of as u15, first_char as u16, meaning_of as u17, escape_of as u18}
+unfoldable pub use Rattle.page_core_escapes.specs.Tokens.{token_at as u19, tokens_of as u20}
+unfoldable pub use Rattle.page_core_numbers.specs.Columns.{printed_within as u21}
+unfoldable pub use Rattle.page_core_numbers.specs.Expressions.{units_of as u22, number_at as u23, operator_at as u24, result_of as u25, operand_by as u26, operations_at as u27, expression_by as u28, expression_within as u29}
+unfoldable pub use Rattle.page_core_tables.specs.Glyphs.{table as u30, symbol_at as u31, glyph_of as u32, first_spelling as u33, spelling_of as u34}
+unfoldable pub use Rattle.page_engine.specs.Page.{shown_rows as u35, reported as u36, worst_of as u37, settled as u38, page as u39}
+unfoldable pub use Rattle.page_engine_header.specs.Header.{row_characters as u40, in_rows as u41, row_items as u42}
+unfoldable pub use Rattle.page_engine_index.specs.Entries.{lines as u43, whole_lines as u44, version_of as u45, entry_of as u46, index_from as u47}
+unfoldable pub use Rattle.page_engine_index.specs.Fields.{is_field as u48}
+unfoldable pub use Rattle.page_engine_index.specs.Matches.{matches_in as u49, names_of as u50, has_match as u51}
+unfoldable pub use Rattle.page_engine_index.specs.Whatis.{is_shown as u52, row_of as u53}
+unfoldable pub use Rattle.page_engine_lines.specs.Bodies.{language_of as u54, footer_items as u55}
+unfoldable pub use Rattle.page_engine_lines.specs.Trees.{tree as u56, step_gave as u57, lay as u58, lay_outer as u59}
+unfoldable pub use Rattle.page_engine_lines.specs.laws.Views.{event_items as u60, event_after as u61, events_items as u62, events_after as u63, end_items as u64}
+unfoldable pub use Rattle.page_engine_records.specs.NameTexts.{signs_of as u65, after_name as u66, name_text as u67}
+unfoldable pub use Rattle.page_engine_records.specs.PageRecords.{record_of_lines as u68}
+unfoldable pub use Rattle.page_engine_records.specs.Records.{without_front as u69, with_names as u70, begins_dash as u71, dash_place as u72}
+unfoldable pub use Rattle.page_fill.specs.Filled.{first_word as u73, outcome as u74, filling as u75}
+unfoldable pub use Rattle.page_fill.specs.Filling.{groups as u76, other_laid as u77, groups_laid as u78}
+unfoldable pub use Rattle.page_fill.specs.Words.{text_content as u79, words_of as u80, word_after_items as u81, words_laid as u82, content_laid as u83}
 unfoldable pub use Rattle.page_fill_rows.specs.laws.Views.{character as u84, characters as u85, glyph as u86}
 unfoldable pub use Rattle.page_roff_blocks.specs.Forest.{outside as u87, bit_after as u88, first_place as u89, before as u90, enclose as u91, enregion as u92, keep as u93, line_of as u94, region_line as u95, source_of as u96, inside_of as u97}
 unfoldable pub use Rattle.page_roff_blocks.specs.Parts.{written_part as u98, left_of as u99, len_of as u100, loop_text as u101, first_text as u102, part_of as u103, line_parts as u104}
@@ -38,11 +38,11 @@ unfoldable pub use Rattle.page_roff_heads.specs.Heads.{guarded_of as u157, condi
 unfoldable pub use Rattle.page_roff_lines.specs.Lines.{read as u162, read_pair as u163, join_texts as u164, logical_lines as u165, decode_line as u166}
 unfoldable pub use Rattle.page_roff_lines.specs.laws.Cutting.{encoding_after as u167, point_at as u168, next_point as u169, end_point as u170, line_at as u171, lines_within as u172, point_after as u173}
 unfoldable pub use Rattle.page_roff_names.specs.Names.{predefined as u174, first_passed as u175}
-unfoldable pub use Rattle.page_roff_parts.specs.Parts.{seen as u177, parts_up_to as u178, parts as u179, without_lone as u180}
-unfoldable pub use Rattle.page_roff_source.specs.Runs.{after as u181, spend as u182, reread as u183, page_line as u184, mode_by as u185, are_run as u186, meet as u187, gather_line as u188, test as u189, value as u190, enter_if as u191, enter_run as u192, enter as u193, leave_level as u194, leave_by as u195, leave as u196, leaf_after as u197, loop_after as u198, guard_after as u199, line_after as u200, region_line as u201, region_lines as u202, region_end as u203, open_region as u204, region_after as u205, run as u206, run_source as u207, run_inside as u208, run_from as u209, run_body as u210, turns as u211, run_product as u212, runs_at as u213, run_page as u214, run_all as u215}
-unfoldable pub use Rattle.page_roff_source.specs.laws.Views.{line_count as u216}
-unfoldable pub use Rattle.page_roff_syntax.specs.Arguments.{arguments as u217}
-unfoldable pub use Rattle.page_roff_syntax.specs.Delimiters.{width_content_len as u176}
+unfoldable pub use Rattle.page_roff_parts.specs.Parts.{seen as u176, parts_up_to as u177, parts as u178, without_lone as u179}
+unfoldable pub use Rattle.page_roff_source.specs.Runs.{after as u180, spend as u181, reread as u182, page_line as u183, mode_by as u184, are_run as u185, meet as u186, gather_line as u187, test as u188, value as u189, enter_if as u190, enter_run as u191, enter as u192, leave_level as u193, leave_by as u194, leave as u195, leaf_after as u196, loop_after as u197, guard_after as u198, line_after as u199, region_line as u200, region_lines as u201, region_end as u202, open_region as u203, region_after as u204, run as u205, run_source as u206, run_inside as u207, run_from as u208, run_body as u209, turns as u210, run_product as u211, runs_at as u212, run_page as u213, run_all as u214}
+unfoldable pub use Rattle.page_roff_source.specs.laws.Views.{line_count as u215}
+unfoldable pub use Rattle.page_roff_syntax.specs.Arguments.{arguments as u216}
+unfoldable pub use Rattle.page_roff_syntax.specs.Delimiters.{width_content_len as u217}
 unfoldable pub use Rattle.page_roff_syntax.specs.Regions.{region_head as u218, is_ending as u219, within_limit as u220, opened as u221}
 unfoldable pub use Rattle.page_roff_syntax.specs.Requests.{request_of as u222}
 unfoldable pub use Rattle.page_roff_values.specs.Answers.{condition_answer as u223}
