@@ -4,6 +4,7 @@ use Rattle.std.proofs.Math.Seq.{drop-length, take-add, take-length}
 use Rattle.std.proofs.lemmas.List.{drop-drop}
 use Rattle.std.specs.Option.{option_map_or}
 use Rattle.memchr.specs.Find.{IsFirstByte, is_byte}
+use Rattle.page_core_base.specs.Bytes.{begins_escape}
 use Rattle.page_roff_parts.specs.declared.parts.Part.{Part}
 use Rattle.page_roff_parts.specs.declared.parts.Part.TheVariants.{Copied, Called}
 use Rattle.std.specs.Prelude.{⊤, IfSome}
@@ -37,6 +38,11 @@ width_none (b ∷ bs) h = go (width_content_len (b ∷ bs)) h
 
 pub lone_width : (copy : Bool) (letter : ℕ) (rest : List ℕ) → letter ≡ 119 → width_len rest ≡ 0 → call_cut copy letter rest ≡ None
 lone_width copy letter rest e h = rw (e, width_none rest h) (none_of (not copy) None refl)
+
+-- a width whose delimiter would be a backslash
+pub lone_escape : (copy : Bool) (letter : ℕ) (rest : List ℕ) → letter ≡ 119 → begins_escape rest ≡ true → call_cut copy letter rest ≡ None
+unfolding width_content_len
+lone_escape copy letter rest e h = rw (e, h) (none_of (not copy) None refl)
 
 -- a name in brackets of which none closes
 name_none : (text : List ℕ) → 0 < length text → get_or text 0 0 ≡ 91 → has_bracket text ≡ false → name_cut text ≡ None

@@ -1,5 +1,5 @@
 -- Texts that are their own value: helpers of proofs.
-use Rattle.std.proofs.Common.{◌≡◌, ℕ, zero, suc, ◌+◌, ◌-◌, ◌%◌, ◌^◌, ◌<◌, ◌≤◌, ◌==◌, Bool, true, false, ◌||◌, ◌&&◌, List, [], ◌∷◌, map, length, take, drop, if◌then◌else◌, Fits, w8, Option, None, Some, is_none, unwrap_or, refl, ap, ap₂, ◌∙◌, add_assoc, arith, length-drop}
+use Rattle.std.proofs.Common.{◌≡◌, ℕ, zero, suc, ◌+◌, ◌%◌, ◌^◌, ◌<◌, ◌≤◌, ◌==◌, Bool, true, false, ◌||◌, ◌&&◌, List, [], ◌∷◌, map, length, take, drop, if◌then◌else◌, Fits, w8, Option, None, Some, is_none, unwrap_or, refl, ap, ap₂, ◌∙◌, add_assoc, arith, length-drop}
 use Rattle.std.proofs.Math.Seq.{drop-length}
 use Rattle.std.proofs.lemmas.Bool.{agree_below, agree_below_at}
 use Rattle.std.proofs.lemmas.List.{take-append-drop, get_or-drop, length-map}

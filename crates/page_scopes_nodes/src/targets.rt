@@ -4,6 +4,7 @@ ghost use Rattle.std.specs.Prelude.{◌≤◌, ◌<◌, length};
 ghost use Rattle.page_core_base.specs.laws.Views.{Came};
 ghost use Rattle.page_core_escapes.specs.Tokens.{tokens_of};
 ghost use Rattle.page_roff_syntax.specs.laws.Views.{argument_view};
+ghost use Rattle.page_scopes_words.specs.Words.{tokens_notes};
 ghost use Rattle.page_scopes_phrases.specs.laws.Views.{GivesOutcome};
 ghost use Rattle.page_scopes_nodes.specs.Begins as targets;
 
@@ -16,7 +17,7 @@ use page_scopes_words::report_token;
 // Gives the messages of a text's escapes, all at one place.
 fn report_escapes<O: PieceOut>(out: &mut O, quoted: bool, place: Place, text: &[u8])
     requires { length text.now ≤ LINE }
-    ensures { Came O.left out.old (targets.tokens_notes quoted place (tokens_of quoted text.now)) out.new }
+    ensures { Came O.left out.old (tokens_notes quoted place (tokens_of quoted text.now)) out.new }
 {
     let mut tokens = Tokens::new(quoted, text);
     while let Some(token) = tokens.read() {

@@ -16,7 +16,7 @@ use page_scopes_words::{Pen, TextStyle, give_blank_cells, give_letters, report_t
 /// Gives the messages of the word at a text's front.
 pub(crate) fn report_word<O: PieceOut>(out: &mut O, quoted: bool, place: Place, text: &[u8])
     requires { length text.now ≤ LINE }
-    ensures { Came O.left out.old (words.tokens_notes quoted place (words_of quoted text.now).word) out.new }
+    ensures { Came O.left out.old (pens.tokens_notes quoted place (words_of quoted text.now).word) out.new }
 {
     let mut rest = text;
     while begins_word(rest) {

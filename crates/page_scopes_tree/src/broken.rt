@@ -1,6 +1,7 @@
 //! Messages of scopes that end otherwise than by their own closer, and of events that are refused (mandoc(1), "DIAGNOSTICS").
 
 ghost use Rattle.std.specs.Prelude.{◌≡◌, [], ◌∷◌};
+ghost use Rattle.page_core_base.specs.Rows.{says};
 ghost use Rattle.page_core_base.specs.laws.Views.{Came};
 ghost use Rattle.page_scopes_tree.specs.laws.Views.{act_view};
 ghost use Rattle.page_scopes_tree.specs.Ends.{event_of};
@@ -16,7 +17,7 @@ use page_sets_lines::{Closer, Event, EventKind, Leaf, Opener};
 
 // Gives a message about a place.
 fn report<O: PieceOut>(out: &mut O, kind: NoteKind, place: Place, detail: &[u8])
-    ensures { Came O.left out.old (broken.says kind place detail.now ∷ []) out.new }
+    ensures { Came O.left out.old (says kind place detail.now ∷ []) out.new }
 {
     out.report(&Note::about(kind, place, detail));
 }

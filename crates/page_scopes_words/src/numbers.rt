@@ -2,6 +2,7 @@
 //! "Scaling Widths").
 
 ghost use Rattle.std.specs.Prelude.{◌≡◌, [], nat_lt, ◌∷◌, if◌then◌else◌};
+ghost use Rattle.page_core_base.specs.Rows.{says};
 ghost use Rattle.page_core_base.specs.laws.Views.{Came};
 ghost use Rattle.page_scopes_words.specs.Words as numbers;
 ghost use Rattle.page_scopes_words.specs.Words.{number_notes, number_value};
@@ -59,7 +60,7 @@ fn rows_in(units: i32) -> u32
 
 // Reports a count of rows that is cut.
 fn report_rows<O: PieceOut>(out: &mut O, place: Place, rows: u32)
-    ensures { Came O.left out.old (if nat_lt spec_BLANKS rows then numbers.says spec_Limit place (name_of limits.Blanks) ∷ [] else []) out.new }
+    ensures { Came O.left out.old (if nat_lt spec_BLANKS rows then says spec_Limit place (name_of limits.Blanks) ∷ [] else []) out.new }
 {
     if rows > BLANKS {
         report(out, NoteKind::Limit, place, Limit::Blanks.name().as_bytes());
