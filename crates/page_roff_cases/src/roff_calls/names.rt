@@ -20,9 +20,10 @@ pub(crate) struct Roff {
 
 impl Roff {
     pub(crate) fn new(alloc: Global) -> Result<Roff, AllocError> {
-        let names = Names::new(alloc)?;
-        let arguments = CallArguments::new(alloc)?;
+        // (names last, so that no failure has to drop them: a proof of that is long)
         let line = Expansion::new(alloc)?;
+        let arguments = CallArguments::new(alloc)?;
+        let names = Names::new(alloc)?;
         Ok(Roff {
             names,
             arguments,
