@@ -12,10 +12,7 @@ use Rattle.page_scopes_phrases.specs.declared.phrases.Phrase.{Phrase}
 -- after a tab there is less
 after_tab-less : (text : List ℕ) → 0 < length text → length (after_tab text) < length text
 after_tab-less [] some = absurd (omega arith)
-after_tab-less (b ∷ bs) some = elim (cases_Bool (b == 9)) [
-  | inl e ↦ rw e (omega arith)
-  | inr e ↦ rw e (omega (arith, length-drop 1 bs))
-]
+after_tab-less (b ∷ bs) some = grind (arith, length-drop 1 bs)
 
 blanks-less : (text : List ℕ) → length (after_blanks text) ≤ length text
 blanks-less text = omega (arith, length-drop (prefix_len (λ byte. byte == 32) text) text)

@@ -1,11 +1,9 @@
 -- Operations of an expression, however many steps their definition has.
-use Rattle.std.proofs.Common.{◌≡◌, ℕ, zero, suc, ◌+◌, ◌<◌, ◌≤◌, ◌==◌, Bool, true, false, List, [], ◌∷◌, length, drop, fold, Option, None, Some, option_map, IfSome, MatchOption, ℤ, inl, inr, refl, ◌∙◌, arith, length-drop}
+use Rattle.std.proofs.Common.{◌≡◌, ℕ, zero, suc, ◌<◌, ◌≤◌, Bool, true, false, List, [], ◌∷◌, length, drop, fold, Option, None, Some, option_map, IfSome, MatchOption, ℤ, refl, ◌∙◌, arith, length-drop}
 use Rattle.std.specs.List.{prefix_len}
-use Rattle.std.proofs.lemmas.Bool.{cases_Bool}
 use Rattle.page_core_numbers.specs.declared.scales.Scale.{Scale}
-use Rattle.page_core_numbers.specs.Expressions.{number_at, digits_of, after_digits, fraction_of, after_fraction, after_scale, scale_at, operator_at, operator_named, operator_len, begins_equal, Read, number, after_close, in_parentheses, operand_inside, operand_by, first, after_operation, next_operator, operations_at, expression_by, expression_within}
-use Rattle.std.specs.Prelude.{is_some, codes, ◌&&◌}
-use Rattle.page_core_base.specs.Bytes.{is_among, is_digit, ascii}
+use Rattle.page_core_numbers.specs.Expressions.{number_at, after_digits, after_fraction, after_scale, operator_at, operator_named, operator_len, begins_equal, Read, number, after_close, in_parentheses, operand_inside, operand_by, first, after_operation, next_operator, operations_at, expression_by, expression_within}
+use Rattle.page_core_base.specs.Bytes.{is_digit}
 use Rattle.page_laws.specs.Operations.{operand_of, done}
 
 -- what is left is no longer than the text that was read
@@ -19,38 +17,24 @@ after-digits-less text = omega (arith, length-drop (prefix_len is_digit text) te
 
 after-fraction-less : (text : List ℕ) → length (after_fraction text) ≤ length text
 after-fraction-less [] = omega arith
-after-fraction-less (b ∷ bs) = elim (cases_Bool (b == ascii ".")) [
-  | inl e ↦ rw e (omega (arith, after-digits-less bs))
-  | inr e ↦ rw e (omega arith)
-]
+after-fraction-less (b ∷ bs) = grind (arith, after-digits-less bs)
 
 after-scale-less : (text : List ℕ) → length (after_scale text) ≤ length text
-after-scale-less text = elim (cases_Bool (is_some (scale_at text))) [
-  | inl e ↦ rw e (omega (arith, length-drop 1 text))
-  | inr e ↦ rw e (omega arith)
-]
+after-scale-less text = grind (arith, length-drop 1 text)
 
 number-less : (scale : Scale) (text : List ℕ) → length (number text (number_at scale text)).rest ≤ length text
 unfolding number_at
-number-less scale text = elim (cases_Bool (length (digits_of text) + length (fraction_of (after_digits text)) == 0)) [
-  | inl e ↦ rw e (omega arith)
-  | inr e ↦ rw e (omega (arith, after-scale-less (after_fraction (after_digits text)), after-fraction-less (after_digits text), after-digits-less text))
-]
+number-less scale text =
+    grind (arith, after-scale-less (after_fraction (after_digits text)), after-fraction-less (after_digits text), after-digits-less text)
 
 -- ---- operands
 
 after-close-less : (text : List ℕ) → length (after_close text) ≤ length text
 after-close-less [] = omega arith
-after-close-less (b ∷ bs) = elim (cases_Bool (b == ascii ")")) [
-  | inl e ↦ rw e (omega arith)
-  | inr e ↦ rw e (omega arith)
-]
+after-close-less (b ∷ bs) = grind arith
 
 parentheses-less : (inside : Read ℤ) → length (in_parentheses inside).rest ≤ length inside.rest
-parentheses-less inside = elim (cases_Bool inside.ends) [
-  | inl e ↦ rw e (omega arith)
-  | inr e ↦ rw e (after-close-less inside.rest)
-]
+parentheses-less inside = grind (arith, after-close-less inside.rest)
 
 -- an operand's inside leaves no more than it was given, where there may be one
 abbrev Fits : Option (List ℕ → Read ℤ) → Type 0
@@ -65,16 +49,8 @@ inside-less (Some inside) h text after less = omega (arith, parentheses-less (in
 operand-less : (inside : Option (List ℕ → Read ℤ)) → Fits inside → (scale : Scale) → Shrinks (operand_by inside scale)
 unfolding operand_by
 operand-less inside h scale [] = omega arith
-operand-less inside h scale (b ∷ bs) = elim (cases_Bool (b == ascii "-")) [
-  | inl e ↦ rw e (omega (arith, operand-less inside h scale bs))
-  | inr m ↦ elim (cases_Bool (b == ascii "+")) [
-    | inl e ↦ rw (m, e) (omega (arith, operand-less inside h scale bs))
-    | inr p ↦ elim (cases_Bool (b == ascii "(")) [
-      | inl e ↦ rw (m, p, e) (inside-less inside h (b ∷ bs) bs (omega arith))
-      | inr o ↦ rw (m, p, o) (number-less scale (b ∷ bs))
-    ]
-  ]
-]
+operand-less inside h scale (b ∷ bs) =
+    grind (arith, operand-less inside h scale bs, inside-less inside h (b ∷ bs) bs (omega arith), number-less scale (b ∷ bs))
 
 -- ---- operations
 
@@ -84,10 +60,7 @@ operator-by None n b bs some = tt
 operator-by (Some o) n b bs some = omega (arith, length-drop n (b ∷ bs), some)
 
 operator-len : (b : ℕ) (equal : Bool) → 0 < operator_len b equal
-operator-len b equal = elim (cases_Bool (is_among b (codes "<>=") && equal)) [
-  | inl e ↦ rw e (omega arith)
-  | inr e ↦ rw e (omega arith)
-]
+operator-len b equal = grind arith
 
 operator-less : (text : List ℕ) → IfSome (operator_at text) (λ found. length found.1 < length text)
 unfolding operator_at

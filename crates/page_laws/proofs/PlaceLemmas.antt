@@ -17,11 +17,7 @@ use Rattle.page_laws.specs.Places.{ends_in_quote, last_column, IsInLine}
 
 long_enough : (prints : Bool) (text : List ℕ) → length text ≤ last_column prints text
 long_enough false text = omega arith
-long_enough true text =
-    elim (cases_Bool (ends_in_quote text)) [
-      | inl t ↦ rw t (omega arith)
-      | inr t ↦ rw t (omega arith)
-    ]
+long_enough true text = grind arith
 
 quote_last : (text : List ℕ) (start : ℕ) → start + 1 ≡ length text → begins_quote (drop start text) ≡ true → ends_in_quote text ≡ true
 quote_last [] start l h = absurd (omega (arith, l))
@@ -32,12 +28,7 @@ quote_last (byte ∷ next ∷ bytes) (suc start) l h = quote_last (next ∷ byte
 
 after_quote : (text : List ℕ) (start : ℕ) → start < length text → begins_quote (drop start text) ≡ true → start + 1 + 1 ≤ last_column true text
 after_quote text start w h =
-    elim (cases_Bool (ends_in_quote text)) [
-      | inl t ↦ rw t (omega (arith, w))
-      | inr t ↦
-          let no : start + 1 ≡ length text → ⊥ = λ l. let q = quote_last text start l h in cc in
-          rw t (omega (arith, w, no))
-    ]
+    let last : start + 1 ≡ length text → ends_in_quote text ≡ true = λ l. quote_last text start l h in grind (arith, nat_tests, w, last)
 
 -- an event in a line by its column
 in_line : (line : TakenLine) (column : ℕ) (kind : EventKind (List ℕ)) → 1 ≤ column → column ≤ last_column (prints_text kind) line.text

@@ -1,15 +1,14 @@
 -- The events of each set of macros are in their line: helpers of proofs.
-use Rattle.std.proofs.Common.{◌≡◌, ℕ, ◌+◌, ◌≤◌, min, ◌&&◌, List, [], ◌∷◌, length, inl, inr, arith}
-use Rattle.std.proofs.lemmas.Bool.{cases_Bool}
+use Rattle.std.proofs.Common.{◌≡◌, ℕ, ◌+◌, ◌≤◌, min, List, [], ◌∷◌, length, arith}
 use Rattle.page_core_base.specs.Limits.{LINE}
 use Rattle.page_core_base.specs.Texts.{TakenLine}
 use Rattle.page_sets.specs.Mdoc.{either_events}
 use Rattle.page_sets.specs.declared.either.Either.{Either}
 use Rattle.page_sets_lines.specs.declared.events.Event.{Event}
 use Rattle.page_sets_lines.specs.Lines.{name_end}
-use Rattle.page_sets_lines.specs.laws.Sets.{AreAll, prints_text}
+use Rattle.page_sets_lines.specs.laws.Sets.{AreAll}
 use Rattle.page_sets.specs.laws.Views.{either_lawful}
-use Rattle.page_laws.specs.Places.{ends_in_quote, IsInLine}
+use Rattle.page_laws.specs.Places.{IsInLine}
 use Rattle.page_laws.proofs.PlaceLemmas.{all_sit, name_in, start_in}
 
 pub all_in_line : (set : Either) (line : TakenLine) → AreAll (IsInLine line) (either_events set line)
@@ -27,11 +26,7 @@ each_then IsSo IsThen (event ∷ events) f h = (f event h.0, each_then IsSo IsTh
 
 one_more : (line : TakenLine) (event : Event (List ℕ)) → length line.text ≤ LINE → IsInLine line event → event.place.column ≤ LINE + 1
 one_more line event l h =
-    let e = h.ends in
-    elim (cases_Bool (prints_text event.kind && ends_in_quote line.text)) [
-      | inl t ↦ let k = rw t at e in omega (arith, l, k)
-      | inr t ↦ let k = rw t at e in omega (arith, l, k)
-    ]
+    let e = h.ends in grind (arith, l, e)
 
 pub all_one_more : (set : Either) (line : TakenLine) → length line.text ≤ LINE → AreAll (λ event. event.place.column ≤ LINE + 1) (either_events set line)
 all_one_more set line l = each_then (IsInLine line) _ (either_events set line) (λ event h. one_more line event l h) (all_in_line set line)
