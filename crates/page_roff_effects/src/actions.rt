@@ -81,34 +81,30 @@ pub(crate) fn report_at<O: NoteOut>(
     out.report(&Note::about(kind, Place { line, column }, detail));
 }
 
-impl Actions {
-    /// Before the first line of a page.
-    pub fn new(alloc: Global, output: Output) -> Result<Actions, AllocError>
-        ensures { IfOk result (acting.IsNew output) }
-    {
-        Ok(Actions {
-            names: Names::new(alloc)?,
-            arguments: CallArguments::new(alloc)?,
-            output,
-            expansion: Expansion::new(alloc)?,
-            body: BodyBuffer::new(alloc)?,
-            line: LineBuffer::new(alloc)?,
-            call: CallBuffer::new(alloc)?,
-            number: 0,
-            expansions: 0,
-        })
-    }
+// The arguments of no macro, a line of which nothing is expanded, and what was taken last, before anything is.
+fn new_buffers(
+    alloc: Global,
+) -> Result<(CallArguments, Expansion, LineBuffer, CallBuffer), AllocError>
+    ensures { IfOk result (λ r. r.0 ≡ None) }
+{
+    let arguments = CallArguments::new(alloc)?;
+    let expansion = Expansion::new(alloc)?;
+    let line = LineBuffer::new(alloc)?;
+    let call = CallBuffer::new(alloc)?;
+    Ok((arguments, expansion, line, call))
+}
 
-    /// The actions between two lines of a page, for an output, with what is remembered of it. All memory is reserved here.
-    pub fn at(alloc: Global, output: Output, remembered: &Remembered) -> Result<Actions, AllocError>
-        ensures { IfOk result (acting.Remembers output remembered.now) }
+impl Actions {
+    // The actions with these names and this body, before the first line of a page.
+    fn with_names(
+        alloc: Global,
+        output: Output,
+        names: Names,
+        body: BodyBuffer,
+    ) -> Result<Actions, AllocError>
+        ensures { IfOk result (acting.Remembers output (record { definitions = names; body = body; number = 0; expansions = 0 })) }
     {
-        let names = remembered.names.copy(alloc)?;
-        let body = remembered.body.copy(alloc)?;
-        let arguments = CallArguments::new(alloc)?;
-        let expansion = Expansion::new(alloc)?;
-        let line = LineBuffer::new(alloc)?;
-        let call = CallBuffer::new(alloc)?;
+        let (arguments, expansion, line, call) = new_buffers(alloc)?;
         Ok(Actions {
             names,
             arguments,
@@ -117,9 +113,30 @@ impl Actions {
             body,
             line,
             call,
-            number: remembered.number,
-            expansions: remembered.expansions,
+            number: 0,
+            expansions: 0,
         })
+    }
+
+    /// Before the first line of a page.
+    pub fn new(alloc: Global, output: Output) -> Result<Actions, AllocError>
+        ensures { IfOk result (acting.IsNew output) }
+    {
+        let names = Names::new(alloc)?;
+        let body = BodyBuffer::new(alloc)?;
+        Actions::with_names(alloc, output, names, body)
+    }
+
+    /// The actions between two lines of a page, for an output, with what is remembered of it. All memory is reserved here.
+    pub fn at(alloc: Global, output: Output, remembered: &Remembered) -> Result<Actions, AllocError>
+        ensures { IfOk result (acting.Remembers output remembered.now) }
+    {
+        let names = remembered.names.copy(alloc)?;
+        let body = remembered.body.copy(alloc)?;
+        let mut actions = Actions::with_names(alloc, output, names, body)?;
+        actions.number = remembered.number;
+        actions.expansions = remembered.expansions;
+        Ok(actions)
     }
 
     /// What is remembered, in memory of its own.
