@@ -20,6 +20,7 @@ use page_roff_heads::{
 use page_roff_syntax::{
     LineForm, RegionKind, Request, control_name, form_of, region_head, white_len,
 };
+use std::alloc::AllocError;
 
 // What a control line heads.
 #[derive(Clone, Copy)]
@@ -40,13 +41,19 @@ pub(crate) struct Columns {
 }
 
 // The first part of a line; `W` is a text.
-#[derive(Clone, Copy)]
+#[derive(Copy)]
 pub(crate) struct RawPart<W> {
     pub(crate) line_part: LinePart<W>,
     // Whether the end of a block follows it.
     pub(crate) is_end: bool,
     // What is left of the line after both, if that is a line.
     pub(crate) rest: Option<W>,
+}
+
+impl<W: Copy> Clone for RawPart<W> {
+    fn clone(&self) -> Result<RawPart<W>, AllocError> {
+        Ok(*self)
+    }
 }
 
 // What a control line of a name heads.

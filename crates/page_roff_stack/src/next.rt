@@ -1,9 +1,10 @@
 //! What comes next in the sources that run.
 
 use page_roff_blocks::LinePart;
+use std::alloc::AllocError;
 
 /// What comes next in the sources that run; `W` is a text, and `R` an open region.
-#[derive(Clone, Copy)]
+#[derive(Copy)]
 pub enum Next<W, R> {
     /// A part of the innermost source's present line.
     Part(LinePart<W>),
@@ -33,4 +34,10 @@ pub enum Next<W, R> {
     },
     /// The page's line is done.
     Nothing,
+}
+
+impl<W: Copy, R: Copy> Clone for Next<W, R> {
+    fn clone(&self) -> Result<Next<W, R>, AllocError> {
+        Ok(*self)
+    }
 }
