@@ -9,6 +9,7 @@ ghost use Rattle.page_core_base.specs.Messages.{message_about};
 ghost use Rattle.page_core_base.specs.declared.note_kinds.NoteKind.TheVariants as kinds;
 ghost use Rattle.page_core_base.specs.laws.Views.{Came};
 ghost use Rattle.page_roff_names.specs.Names.{string_of};
+ghost use Rattle.page_roff_values.specs.Answers.{value_of};
 ghost use Rattle.page_roff_definitions.specs.Definitions.{first_text};
 ghost use Rattle.page_roff_definitions.specs.Definitions as defining;
 ghost use Rattle.page_roff_definitions.specs.laws.Views.{Does, FitsRequest};
@@ -106,6 +107,18 @@ fn is_read_only(name: &[u8]) -> bool
     matches!(name, [b'.', ..])
 }
 
+// The number that a register has after a value with this number, which changes it if a sign is there.
+fn next_number(name: &[u8], value: &[u8], number: i32, names: &Names) -> i32
+    requires { number ≡ value_of value.now }
+    ensures { result ≡ defining.next_number name.now value.now names.now }
+{
+    if begins_sign(value) {
+        names.register(name).unwrap_or(0).saturating_add(number)
+    } else {
+        number
+    }
+}
+
 // Gives a register the number of a value, or changes it by that.
 fn set_number<O: NoteOut>(name: &[u8], value: &[u8], place: Place, names: &mut Names, out: &mut O)
     ensures { Does O.left out.old out.new names.new
@@ -115,11 +128,7 @@ fn set_number<O: NoteOut>(name: &[u8], value: &[u8], place: Place, names: &mut N
     if is_read_only(name) {
         return;
     }
-    let next = if begins_sign(value) {
-        names.register(name).unwrap_or(0).saturating_add(number)
-    } else {
-        number
-    };
+    let next = next_number(name, value, number, names);
     set_register(name, next, place, names, out);
 }
 
