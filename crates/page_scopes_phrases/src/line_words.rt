@@ -87,7 +87,6 @@ fn give_parted<O: PieceOut>(out: &mut O, line: u32, phrase: &Phrase<&[u8]>, stat
 }
 
 /// Gives a word of a line.
-#[tactic(auto, unfolding(crate::specs::LineWords::line_word))]
 #[inline(always)]
 pub fn give_line_word<O: PieceOut>(
     out: &mut O,

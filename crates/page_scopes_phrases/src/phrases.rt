@@ -11,9 +11,10 @@ use page_scopes_layout::{Context, PagePart};
 use page_scopes_text::{give_text, last_word};
 use page_scopes_words::{Fonts, Pen, Setting, TextStyle};
 use page_sets_lines::Join;
+use std::alloc::AllocError;
 
 /// A text that an event prints; `W` is a text.
-#[derive(Clone, Copy)]
+#[derive(Copy)]
 pub struct Phrase<W> {
     pub text: W,
     /// The column of its first byte.
@@ -30,6 +31,12 @@ pub struct Phrase<W> {
     pub before: Join,
     /// How it is beside the word after it.
     pub after: Join,
+}
+
+impl<W: Copy> Clone for Phrase<W> {
+    fn clone(&self) -> Result<Phrase<W>, AllocError> {
+        Ok(*self)
+    }
 }
 
 impl<'a> Phrase<&'a [u8]> {
