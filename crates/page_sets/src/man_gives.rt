@@ -2,8 +2,8 @@
 
 ghost use Rattle.std.specs.Prelude.{◌≡◌, ◌≤◌, [], ◌∷◌, length, drop, option_map, if◌then◌else◌, IfSome, false};
 ghost use Rattle.page_core_base.specs.laws.Views.{line_view, Came};
-ghost use Rattle.page_sets_lines.specs.laws.Events.{kind_view, event_view};
-ghost use Rattle.page_sets_lines.specs.laws.Views.{IsShortKind};
+ghost use Rattle.page_sets_lines.specs.laws.Events.{kind_view};
+ghost use Rattle.page_sets_lines.specs.laws.Views.{ArgumentFits, IsShortKind};
 ghost use Rattle.page_sets_lines.specs.Lines.{arguments_after, event_at, line_end};
 ghost use Rattle.page_roff_syntax.specs.laws.Views.{argument_view};
 ghost use Rattle.page_sets_lines.specs.declared.events.Join.TheVariants.{Apart};
@@ -17,8 +17,8 @@ use crate::man_rows::{Alone, Last, ManRow, Quotes, Words, row_of};
 use page_core_base::{Font, LINE, NoteKind, Place, Taken};
 use page_roff_syntax::{Argument, has_arguments};
 use page_sets_lines::{
-    Closer, ControlLine, Event, EventKind, EventTaker, GeneratedText, Join, Leaf, LineOpener,
-    PlainLine, Role, event_at, generated_word, line_start, open_quote, read_after, word_event,
+    Closer, ControlLine, EventKind, EventTaker, GeneratedText, Join, Leaf, LineOpener, PlainLine,
+    Role, event_at, generated_word, line_start, open_quote, read_after, word_event,
 };
 
 /// The quote of an argument without its closing one: its column, and whether its message may begin the body of the
@@ -76,22 +76,33 @@ fn has_words(words: Words) -> bool
 }
 
 // An argument as a word.
-fn argument_word(
+#[inline(always)]
+fn give_argument<'a, O: EventTaker<'a>>(
+    out: &mut O,
     number: u32,
     font: Option<Font>,
     before: Join,
-    argument: Argument<&[u8]>,
-) -> Event<&[u8]>
-    ensures { event_view result ≡ man.argument_word number font before (argument_view argument.entry) }
+    argument: Argument<&'a [u8]>,
+)
+    requires { ArgumentFits (argument_view argument) }
+    ensures { Came O.left out.old
+        (man.argument_word number font before (argument_view argument.entry) ∷ []) out.new }
 {
-    word_event(number, Role::Argument, font, before, Join::Apart, argument)
+    let role = Role::Argument;
+    out.give(word_event(number, role, font, before, Join::Apart, argument));
 }
 
 // A mark of a macro's own.
-fn mark<'a>(place: Place, text: GeneratedText, before: Join, after: Join) -> Event<&'a [u8]>
-    ensures { event_view result ≡ man.mark place text before after }
+fn give_mark<'a, O: EventTaker<'a>>(
+    out: &mut O,
+    place: Place,
+    text: GeneratedText,
+    before: Join,
+    after: Join,
+)
+    ensures { Came O.left out.old (man.mark place text before after ∷ []) out.new }
 {
-    generated_word(place, text, None, before, after)
+    out.give(generated_word(place, text, None, before, after));
 }
 
 // All arguments, in the font around them.
@@ -102,7 +113,7 @@ fn give_plain_words<'a, O: EventTaker<'a>>(out: &mut O, number: u32, text: &'a [
 {
     let mut rest = start;
     while let Some((argument, end)) = read_after(text, rest) {
-        out.give(argument_word(number, None, Join::Apart, argument));
+        give_argument(out, number, None, Join::Apart, argument);
         rest = end;
     }
 }
@@ -136,7 +147,7 @@ fn give_alternating<'a, O: EventTaker<'a>>(
     let mut before = Join::Apart;
     let mut rest = start;
     while let Some((argument, end)) = read_after(text, rest) {
-        out.give(argument_word(number, Some(fonts.0), before, argument));
+        give_argument(out, number, Some(fonts.0), before, argument);
         fonts = (fonts.1, fonts.0);
         before = Join::Glued;
         rest = end;
@@ -158,7 +169,7 @@ fn give_one<'a, O: EventTaker<'a>>(
         (man.one_word number font before (arguments_after start text.now)) out.new }
 {
     if let Some((argument, _)) = read_after(text, start) {
-        out.give(argument_word(number, font, before, argument));
+        give_argument(out, number, font, before, argument);
     }
 }
 
@@ -169,7 +180,7 @@ fn give_option<'a, O: EventTaker<'a>>(out: &mut O, number: u32, text: &'a [u8], 
     ensures { Came O.left out.old (man.option_words number (arguments_after start text.now)) out.new }
 {
     if let Some((key, rest)) = read_after(text, start) {
-        out.give(argument_word(number, Some(Font::B), Join::Apart, key));
+        give_argument(out, number, Some(Font::B), Join::Apart, key);
         give_one(out, number, Some(Font::I), Join::Apart, text, rest);
     }
 }
@@ -182,19 +193,13 @@ fn give_section<'a, O: EventTaker<'a>>(out: &mut O, place: Place, text: &'a [u8]
         (man.section_words place (arguments_after start text.now)) out.new }
 {
     if let Some((section, rest)) = read_after(text, start) {
-        out.give(mark(
-            place,
+        let (opening, closing) = (
             GeneratedText::OpenParenthesis,
-            Join::Glued,
-            Join::Glued,
-        ));
-        out.give(argument_word(place.line, None, Join::Apart, section));
-        out.give(mark(
-            place,
             GeneratedText::CloseParenthesis,
-            Join::Glued,
-            Join::Apart,
-        ));
+        );
+        give_mark(out, place, opening, Join::Glued, Join::Glued);
+        give_argument(out, place.line, None, Join::Apart, section);
+        give_mark(out, place, closing, Join::Glued, Join::Apart);
         give_one(out, place.line, None, Join::Glued, text, rest);
     }
 }
@@ -207,7 +212,7 @@ fn give_reference<'a, O: EventTaker<'a>>(out: &mut O, place: Place, text: &'a [u
         (man.reference_words place (arguments_after start text.now)) out.new }
 {
     if let Some((name, rest)) = read_after(text, start) {
-        out.give(argument_word(place.line, Some(Font::I), Join::Apart, name));
+        give_argument(out, place.line, Some(Font::I), Join::Apart, name);
         give_section(out, place, text, rest);
     }
 }
@@ -244,7 +249,7 @@ fn give_last<'a, O: EventTaker<'a>>(out: &mut O, place: Place, last: Last)
     match last {
         Last::Nothing => {}
         Last::FontEnds => out.give(event_at(place, EventKind::Leaf(Leaf::Fonts(None)))),
-        Last::Mark(text) => out.give(mark(place, text, Join::Glued, Join::Apart)),
+        Last::Mark(text) => give_mark(out, place, text, Join::Glued, Join::Apart),
     }
 }
 

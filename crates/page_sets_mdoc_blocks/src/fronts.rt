@@ -2,10 +2,9 @@
 
 ghost use Rattle.std.specs.Prelude.{◌≡◌, [], ◌∷◌, ◌++◌, false, unwrap_or};
 ghost use Rattle.page_core_base.specs.laws.Views.{Came};
-ghost use Rattle.page_sets_lines.specs.laws.Events.{event_view, kind_view, opener_view, block_opener_view, block_closer_view};
+ghost use Rattle.page_sets_lines.specs.laws.Events.{kind_view, opener_view, block_opener_view, block_closer_view};
 ghost use Rattle.page_sets_lines.specs.laws.Views.{BlockCloserFits, BlockOpenerFits, IsShortKind, OpenerFits};
 ghost use Rattle.page_sets_mdoc_blocks.specs.Fronts as fronts;
-ghost use Rattle.page_sets_lines.specs.Lines.{event_at as spec_event_at};
 ghost use Rattle.page_sets_lines.specs.declared.events.EventKind.TheVariants as kinds;
 ghost use Rattle.page_core_base.specs.declared.note_kinds.NoteKind.TheVariants.{Unterminated};
 
@@ -16,32 +15,34 @@ use crate::sentences::{option_quote, spacing_of};
 use page_core_base::{NoteKind, Place};
 use page_roff_syntax::LayoutRequest;
 use page_sets_lines::{
-    BlockCloser, BlockOpener, Closer, ControlLine, Event, EventKind, EventTaker, HeadingName, Leaf,
+    BlockCloser, BlockOpener, Closer, ControlLine, EventKind, EventTaker, HeadingName, Leaf,
     LineOpener, LineStep, Opener, event_at, with_argument,
 };
 use page_sets_mdoc_lines::{BlockMacro, LineMacro};
 
 // An event at the name of the macro that begins a line.
-fn at_name<'a>(line: &ControlLine<'_>, kind: EventKind<&'a [u8]>) -> Event<&'a [u8]>
-    ensures { event_view result ≡ fronts.at_name line.now (kind_view kind.entry) }
+fn give_at_name<'a, O: EventTaker<'a>>(
+    out: &mut O,
+    line: &ControlLine<'_>,
+    kind: EventKind<&'a [u8]>,
+)
+    requires { IsShortKind (kind_view kind) }
+    ensures { Came O.left out.old (fronts.at_name line.now (kind_view kind.entry) ∷ []) out.new }
 {
-    event_at(line.name_place(), kind)
+    out.give(event_at(line.name_place(), kind));
 }
 
 // The message about a quote.
-fn quote_event<'a>(place: Place, begins_body: bool) -> Event<&'a [u8]>
-    ensures { event_view result ≡ spec_event_at place (kinds.Note Unterminated [] false begins_body) }
+fn quote_kind<'a>(begins_body: bool) -> EventKind<&'a [u8]>
+    ensures { kind_view result ≡ kinds.Note Unterminated [] false begins_body }
 {
     let detail: &[u8] = &[];
-    event_at(
-        place,
-        EventKind::Note {
-            kind: NoteKind::Unterminated,
-            detail,
-            is_quoted: false,
-            begins_body,
-        },
-    )
+    EventKind::Note {
+        kind: NoteKind::Unterminated,
+        detail,
+        is_quoted: false,
+        begins_body,
+    }
 }
 
 // The message about a quote in a column, if it lacks its last one.
@@ -58,7 +59,7 @@ fn give_quote<'a, O: EventTaker<'a>>(
             line: number,
             column,
         };
-        out.give(quote_event(place, begins_body));
+        out.give(event_at(place, quote_kind(begins_body)));
     }
 }
 
@@ -93,7 +94,7 @@ fn give_note<'a, O: EventTaker<'a>>(out: &mut O, line: &ControlLine<'a>, kind: O
             is_quoted: note_is_quoted(kind, line),
             begins_body: true,
         };
-        out.give(at_name(line, kind));
+        give_at_name(out, line, kind);
     }
 }
 
@@ -149,7 +150,7 @@ fn give_quoted<'a, O: EventTaker<'a>>(
         ++ (fronts.at_name line.now (kind_view kind.entry) ∷ [])) out.new }
 {
     give_quote(out, line.number(), false, line.missing_quote());
-    out.give(at_name(line, kind));
+    give_at_name(out, line, kind);
 }
 
 // A block of lines begins.
@@ -159,7 +160,7 @@ fn give_begin<'a, O: EventTaker<'a>>(out: &mut O, block: BlockMacro, line: &Cont
     give_quote(out, line.number(), true, line.missing_quote());
     give_note(out, line, block_note(block, line));
     let kind = EventKind::Open(Opener::Block(opener_of(block, line)));
-    out.give(at_name(line, kind));
+    give_at_name(out, line, kind);
 }
 
 // The scope of a heading.
@@ -179,7 +180,7 @@ fn give_field<'a, O: EventTaker<'a>>(out: &mut O, line: &ControlLine<'a>)
         (fronts.field_front (fronts.has_real_word line.now) line.now) out.new }
 {
     if has_real_word(line) {
-        out.give(at_name(line, EventKind::Leaf(Leaf::Step(LineStep::NextField))));
+        give_at_name(out, line, EventKind::Leaf(Leaf::Step(LineStep::NextField)));
     } else {
         give_refusal(out, NoteKind::EmptyMacro, line);
     }
@@ -201,7 +202,11 @@ fn give_spacing<'a, O: EventTaker<'a>>(out: &mut O, line: &ControlLine<'a>)
 {
     give_quote(out, line.number(), false, line.missing_quote());
     if let Some(on) = spacing_of(first_text(line)) {
-        out.give(at_name(line, EventKind::Leaf(Leaf::Step(LineStep::Spacing(on)))));
+        give_at_name(
+            out,
+            line,
+            EventKind::Leaf(Leaf::Step(LineStep::Spacing(on))),
+        );
     }
 }
 
@@ -215,7 +220,7 @@ pub fn give_refusal<'a, O: EventTaker<'a>>(out: &mut O, kind: NoteKind, line: &C
         is_quoted: false,
         begins_body: false,
     };
-    out.give(at_name(line, kind));
+    give_at_name(out, line, kind);
 }
 
 /// Gives what a request that changes rows does in a line.
@@ -247,8 +252,8 @@ pub fn give_front<'a, O: EventTaker<'a>>(out: &mut O, begins: LineMacro, line: &
             );
         }
         LineMacro::Heading(name) => {
-            out.give(at_name(line, EventKind::Open(heading_opener(name))));
-            out.give(at_name(line, EventKind::LineScope(LineOpener::Heading(name))));
+            give_at_name(out, line, EventKind::Open(heading_opener(name)));
+            give_at_name(out, line, EventKind::LineScope(LineOpener::Heading(name)));
         }
         LineMacro::Paragraph(name) => {
             give_quoted(
@@ -258,18 +263,18 @@ pub fn give_front<'a, O: EventTaker<'a>>(out: &mut O, begins: LineMacro, line: &
             );
         }
         LineMacro::Description => {
-            out.give(at_name(line, EventKind::LineScope(LineOpener::Description)));
+            give_at_name(out, line, EventKind::LineScope(LineOpener::Description));
         }
         LineMacro::OneLine(name) => {
-            out.give(at_name(line, EventKind::LineScope(LineOpener::OneLine(name))));
+            give_at_name(out, line, EventKind::LineScope(LineOpener::OneLine(name)));
         }
         LineMacro::Begins(block) => give_begin(out, block, line),
         LineMacro::Ends(block) => {
             give_quoted(out, line, EventKind::Close(Closer::Block(closer_of(block))));
         }
         LineMacro::Item => {
-            out.give(at_name(line, EventKind::Open(Opener::Item)));
-            out.give(at_name(line, EventKind::LineScope(LineOpener::Head)));
+            give_at_name(out, line, EventKind::Open(Opener::Item));
+            give_at_name(out, line, EventKind::LineScope(LineOpener::Head));
         }
         LineMacro::Field(_) => give_field(out, line),
         LineMacro::Sentence(_) => give_quote(out, line.number(), true, option_quote(line)),

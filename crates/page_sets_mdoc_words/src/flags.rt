@@ -6,9 +6,9 @@ ghost use Rattle.page_sets_mdoc_lines.specs.machine.Cursors.{IsCursorOf};
 ghost use Rattle.page_sets_mdoc_lines.specs.laws.Views.{words_view};
 ghost use Rattle.page_sets_mdoc_words.specs.Inlines as inlines;
 
-use crate::printed::printed_word;
+use crate::printed::{give_generated, give_word};
 use page_core_base::{Font, LINE};
-use page_sets_lines::{EventTaker, GeneratedText, Join, generated_word, word_place};
+use page_sets_lines::{EventTaker, GeneratedText, Join, word_place};
 use page_sets_mdoc_lines::{Words, is_real};
 
 /// A dash before each word that is no delimiter.
@@ -25,16 +25,11 @@ pub(crate) fn give_flags<'a, O: EventTaker<'a>>(
     let mut left = words;
     while let Some(word) = left.read(text) {
         if is_real(word) {
-            out.give(generated_word(
-                word_place(number, word),
-                GeneratedText::Dash,
-                Some(Font::B),
-                Join::Apart,
-                Join::Glued,
-            ));
-            out.give(printed_word(number, Some(Font::B), word));
+            let (place, dash) = (word_place(number, word), GeneratedText::Dash);
+            give_generated(out, place, dash, Some(Font::B), Join::Apart, Join::Glued);
+            give_word(out, number, Some(Font::B), word);
         } else {
-            out.give(printed_word(number, None, word));
+            give_word(out, number, None, word);
         }
     }
 }

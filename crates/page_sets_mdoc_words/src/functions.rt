@@ -7,11 +7,10 @@ ghost use Rattle.page_sets_mdoc_lines.specs.laws.Views.{AreIn, words_view};
 ghost use Rattle.page_sets_mdoc_words.specs.Inlines as inlines;
 
 use crate::plain::give_printed;
-use crate::printed::{printed_word, step_event};
+use crate::printed::{give_generated, give_line_step, give_word};
 use page_core_base::{Font, LINE, Place};
 use page_sets_lines::{
     BlockOpener, EventKind, EventTaker, GeneratedText, Join, LineStep, Opener, event_at,
-    generated_word,
 };
 use page_sets_mdoc_lines::{MacroWords, Words, is_real};
 
@@ -26,17 +25,12 @@ fn give_arguments<'a, O: EventTaker<'a>>(out: &mut O, place: Place, text: &'a [u
     while let Some(word) = left.read(text) {
         if is_real(word) {
             if !is_first {
-                out.give(generated_word(
-                    place,
-                    GeneratedText::Comma,
-                    None,
-                    Join::Glued,
-                    Join::Apart,
-                ));
+                let comma = GeneratedText::Comma;
+                give_generated(out, place, comma, None, Join::Glued, Join::Apart);
             }
             is_first = false;
         }
-        out.give(printed_word(place.line, Some(Font::I), word));
+        give_word(out, place.line, Some(Font::I), word);
     }
 }
 
@@ -53,10 +47,10 @@ fn give_function_words<'a, O: EventTaker<'a>>(
 {
     let mut left = words;
     while let Some(word) = left.read(text) {
-        out.give(printed_word(place.line, Some(Font::B), word));
+        give_word(out, place.line, Some(Font::B), word);
         if is_real(word) {
             let opening = GeneratedText::OpenParenthesis;
-            out.give(generated_word(place, opening, None, Join::Glued, Join::Glued));
+            give_generated(out, place, opening, None, Join::Glued, Join::Glued);
             give_arguments(out, place, text, left);
             return;
         }
@@ -76,7 +70,7 @@ pub(crate) fn give_function<'a, O: EventTaker<'a>>(
         ++ inlines.function_end place (words_view text.now words.now.outside)) out.new }
 {
     give_function_words(out, place, text, words.inside);
-    out.give(step_event(place, LineStep::FunctionEnd));
+    give_line_step(out, place, LineStep::FunctionEnd);
     give_printed(out, place.line, None, text, words.outside);
 }
 
@@ -94,10 +88,10 @@ pub(crate) fn give_next_arguments<'a, O: EventTaker<'a>>(
     let mut left = words;
     while let Some(word) = left.read(text) {
         if is_real(word) {
-            out.give(step_event(place, LineStep::NextArgument));
-            out.give(printed_word(place.line, Some(Font::I), word));
+            give_line_step(out, place, LineStep::NextArgument);
+            give_word(out, place.line, Some(Font::I), word);
         } else {
-            out.give(printed_word(place.line, None, word));
+            give_word(out, place.line, None, word);
         }
     }
 }
@@ -121,6 +115,6 @@ pub(crate) fn give_function_opened<'a, O: EventTaker<'a>>(
             give_printed(out, place.line, None, text, left);
             return;
         }
-        out.give(printed_word(place.line, None, word));
+        give_word(out, place.line, None, word);
     }
 }

@@ -7,9 +7,9 @@ ghost use Rattle.page_sets_mdoc_lines.specs.laws.Views.{words_view};
 ghost use Rattle.page_sets_mdoc_words.specs.Sentences.{include_events};
 
 use crate::plain::give_printed;
-use crate::printed::{printed_word, step_event};
+use crate::printed::{give_generated, give_line_step, give_word};
 use page_core_base::{LINE, Place};
-use page_sets_lines::{EventTaker, GeneratedText, Join, LineStep, SynopsisStep, generated_word};
+use page_sets_lines::{EventTaker, GeneratedText, Join, LineStep, SynopsisStep};
 use page_sets_mdoc_lines::{Words, is_real};
 
 /// Gives the words of `In`: the first that is no delimiter is a file, which is in angles.
@@ -23,13 +23,13 @@ pub fn give_include<'a, O: EventTaker<'a>>(out: &mut O, place: Place, text: &'a 
         if is_real(word) {
             let include = LineStep::Synopsis(SynopsisStep::Include);
             let (opening, closing) = (GeneratedText::OpenAngle, GeneratedText::CloseAngle);
-            out.give(step_event(place, include));
-            out.give(generated_word(place, opening, None, Join::Apart, Join::Glued));
-            out.give(printed_word(place.line, None, word));
-            out.give(generated_word(place, closing, None, Join::Glued, Join::Apart));
+            give_line_step(out, place, include);
+            give_generated(out, place, opening, None, Join::Apart, Join::Glued);
+            give_word(out, place.line, None, word);
+            give_generated(out, place, closing, None, Join::Glued, Join::Apart);
             give_printed(out, place.line, None, text, left);
             return;
         }
-        out.give(printed_word(place.line, None, word));
+        give_word(out, place.line, None, word);
     }
 }

@@ -10,10 +10,10 @@ ghost use Rattle.page_sets_mdoc_words.specs.Inlines as inlines;
 ghost use Rattle.page_sets_mdoc_words.specs.Inlines.{printed};
 
 use crate::plain::give_printed;
-use crate::printed::{printed_word, step_event};
+use crate::printed::{give_generated, give_line_step, give_word};
 use page_core_base::{Font, LINE, Place};
 use page_roff_syntax::Argument;
-use page_sets_lines::{EventTaker, GeneratedText, Join, LineStep, generated_word};
+use page_sets_lines::{EventTaker, GeneratedText, Join, LineStep};
 use page_sets_mdoc_lines::{MacroWords, Words, is_real};
 
 // An address, after its texts.
@@ -32,13 +32,20 @@ fn give_address<'a, O: EventTaker<'a>>(
 {
     let mut left = texts;
     let Some(first) = left.read(text) else {
-        out.give(step_event(place, LineStep::Uri(uri)));
+        give_line_step(out, place, LineStep::Uri(uri));
         return;
     };
-    out.give(printed_word(place.line, Some(Font::I), first));
+    give_word(out, place.line, Some(Font::I), first);
     give_printed(out, place.line, Some(Font::I), text, left);
-    out.give(generated_word(place, GeneratedText::Colon, None, Join::Glued, Join::Apart));
-    out.give(step_event(place, LineStep::Uri(uri)));
+    give_generated(
+        out,
+        place,
+        GeneratedText::Colon,
+        None,
+        Join::Glued,
+        Join::Apart,
+    );
+    give_line_step(out, place, LineStep::Uri(uri));
 }
 
 // The words of a link up to its closing delimiters: the first that is no delimiter is the address.
@@ -53,7 +60,7 @@ fn give_link_words<'a, O: EventTaker<'a>>(out: &mut O, place: Place, text: &'a [
             give_address(out, place, word, text, left);
             return;
         }
-        out.give(printed_word(place.line, None, word));
+        give_word(out, place.line, None, word);
     }
 }
 

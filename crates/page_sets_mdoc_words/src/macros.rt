@@ -21,7 +21,7 @@ use crate::functions::{give_function, give_next_arguments};
 use crate::links::give_link;
 use crate::names::{Lone, give_lone, give_named};
 use crate::plain::{MacroName, give_found, give_printed, give_refused};
-use crate::printed::step_event;
+use crate::printed::{give_line_step, step_event};
 use crate::references::give_reference;
 use crate::synopses::{after_words, before_words};
 use crate::systems::{give_bsd, system_word};
@@ -175,7 +175,7 @@ fn give_synopsis<'a, O: EventTaker<'a>>(out: &mut O, place: Place, step: Option<
     ensures { Came O.left out.old (synopses.preceded place step []) out.new }
 {
     if let Some(step) = step {
-        out.give(step_event(place, LineStep::Synopsis(step)));
+        give_line_step(out, place, LineStep::Synopsis(step));
     }
 }
 

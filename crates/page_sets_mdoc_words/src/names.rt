@@ -1,20 +1,17 @@
 //! `Nm`, and what `Nm Ar Pa Fl` print without words (mdoc(7), "Nm", "Ar", "Pa" and "Fl").
 
-ghost use Rattle.std.specs.Prelude.{◌≡◌, ◌≤◌, ◌&&◌, length, if◌then◌else◌};
+ghost use Rattle.std.specs.Prelude.{◌≡◌, ◌≤◌, [], ◌∷◌, ◌&&◌, length, if◌then◌else◌};
 ghost use Rattle.page_sets_names.specs.declared.generated_texts.GeneratedText.TheVariants.{Flag, JoinedFlag};
 ghost use Rattle.page_core_base.specs.laws.Views.{Came};
-ghost use Rattle.page_sets_lines.specs.laws.Events.{event_view};
 ghost use Rattle.page_sets_mdoc_lines.specs.machine.Cursors.{IsCursorOf};
 ghost use Rattle.page_sets_mdoc_lines.specs.laws.Views.{words_view};
 ghost use Rattle.page_sets_mdoc_words.specs.Inlines as inlines;
 ghost use Rattle.page_sets_mdoc_words.specs.machine.Lone.{lone_event};
 
 use crate::plain::give_printed;
-use crate::printed::{is_opening, printed_word, step_event};
+use crate::printed::{give_generated, give_line_step, give_word, is_opening};
 use page_core_base::{Font, LINE, Place};
-use page_sets_lines::{
-    Event, EventTaker, GeneratedText, Join, LineStep, Role, generated_word, word_event,
-};
+use page_sets_lines::{EventTaker, GeneratedText, Join, LineStep, Role, word_event};
 use page_sets_mdoc_lines::{Defaulted, Words, is_real};
 
 /// What a macro prints where all its words are delimiters.
@@ -49,19 +46,19 @@ fn dash(follows: bool, is_last: bool) -> GeneratedText
     }
 }
 
-// What is printed, knowing whether no word comes after it.
-fn lone_event<'a>(place: Place, lone: Lone, is_last: bool) -> Event<&'a [u8]>
-    ensures { event_view result ≡ lone_event place lone is_last }
+// Gives it, knowing whether no word comes after it.
+fn give_lone_event<'a, O: EventTaker<'a>>(out: &mut O, place: Place, lone: Lone, is_last: bool)
+    ensures { Came O.left out.old (lone_event place lone is_last ∷ []) out.new }
 {
     match lone {
-        Lone::ManualName => step_event(place, LineStep::ManualName),
+        Lone::ManualName => give_line_step(out, place, LineStep::ManualName),
         Lone::Default(default) => {
             let text = default_text(default);
-            generated_word(place, text, Some(Font::I), Join::Apart, Join::Apart)
+            give_generated(out, place, text, Some(Font::I), Join::Apart, Join::Apart);
         }
         Lone::Dash { follows } => {
             let text = dash(follows, is_last);
-            generated_word(place, text, Some(Font::B), Join::Apart, Join::Apart)
+            give_generated(out, place, text, Some(Font::B), Join::Apart, Join::Apart);
         }
     }
 }
@@ -82,14 +79,14 @@ pub(crate) fn give_lone<'a, O: EventTaker<'a>>(
     let mut left = words;
     while let Some(word) = left.read(text) {
         if !is_opening(word) {
-            out.give(lone_event(place, lone, false));
-            out.give(printed_word(place.line, None, word));
+            give_lone_event(out, place, lone, false);
+            give_word(out, place.line, None, word);
             give_printed(out, place.line, None, text, left);
             return;
         }
-        out.give(printed_word(place.line, None, word));
+        give_word(out, place.line, None, word);
     }
-    out.give(lone_event(place, lone, true));
+    give_lone_event(out, place, lone, true);
 }
 
 /// `Nm`: the first word that is no delimiter is the name of the manual.
@@ -112,6 +109,6 @@ pub(crate) fn give_named<'a, O: EventTaker<'a>>(
             give_printed(out, line, Some(Font::B), text, left);
             return;
         }
-        out.give(printed_word(place.line, None, word));
+        give_word(out, place.line, None, word);
     }
 }

@@ -9,7 +9,7 @@ ghost use Rattle.page_sets_mdoc_lines.specs.laws.Views.{IsFirstKnown, words_view
 ghost use Rattle.page_sets_mdoc_words.specs.Inlines.{refused};
 ghost use Rattle.page_sets_mdoc_words.specs.Inlines as printed;
 
-use crate::printed::printed_word;
+use crate::printed::give_word;
 use page_core_base::{Font, LINE, NoteKind, Place};
 use page_roff_syntax::Argument;
 use page_sets_lines::{EventKind, EventTaker, event_at};
@@ -40,7 +40,7 @@ fn give_read<'a, O: EventTaker<'a>>(
     let mut next = Some(first);
     let mut left = others;
     while let Some(word) = next {
-        out.give(printed_word(number, font, word));
+        give_word(out, number, font, word);
         next = left.read(text);
     }
 }

@@ -1,17 +1,21 @@
 //! Words and delimiters as they are printed (mdoc(7), "MACRO SYNTAX" and "Delimiters").
 
-ghost use Rattle.std.specs.Prelude.{◌≡◌};
+ghost use Rattle.std.specs.Prelude.{◌≡◌, [], ◌∷◌};
+ghost use Rattle.page_core_base.specs.laws.Views.{Came};
 ghost use Rattle.page_roff_syntax.specs.laws.Views.{argument_view};
 ghost use Rattle.page_sets_lines.specs.laws.Events.{event_view, step_view};
 ghost use Rattle.page_sets_lines.specs.laws.Views.{ArgumentFits, IsShort};
-ghost use Rattle.page_sets_lines.specs.Lines.{event_at, word_event as spec_word_event};
+ghost use Rattle.page_sets_lines.specs.Lines.{event_at, generated_word as spec_generated_word, word_event as spec_word_event};
 ghost use Rattle.page_sets_mdoc_words.specs.Inlines as printed;
 ghost use Rattle.page_sets_lines.specs.declared.events.Role.TheVariants as roles;
 ghost use Rattle.page_sets_lines.specs.declared.events.Join.TheVariants.{Apart};
 
 use page_core_base::{Font, Place};
 use page_roff_syntax::Argument;
-use page_sets_lines::{Event, EventKind, Join, Leaf, LineStep, Role, event_at, word_event};
+use page_sets_lines::{
+    Event, EventKind, EventTaker, GeneratedText, Join, Leaf, LineStep, Role, event_at,
+    generated_word, word_event,
+};
 use page_sets_mdoc_lines::{Delimiter, word_delimiter};
 
 // A word that is no delimiter, between blanks.
@@ -42,6 +46,48 @@ pub fn printed_word(number: u32, font: Option<Font>, word: Argument<&[u8]>) -> E
         Some(delimiter) => delimiter_word(number, delimiter, word),
         None => real_word(number, font, word),
     }
+}
+
+/// Gives a word in a font, or a delimiter in its place.
+#[inline(always)]
+pub(crate) fn give_word<'a, O: EventTaker<'a>>(
+    out: &mut O,
+    number: u32,
+    font: Option<Font>,
+    word: Argument<&'a [u8]>,
+)
+    requires { ArgumentFits (argument_view word) }
+    ensures { Came O.left out.old (printed.printed_word number font (argument_view word.entry) ∷ []) out.new }
+{
+    out.give(printed_word(number, font, word));
+}
+
+/// Gives a text of a macro's own.
+#[inline(always)]
+pub(crate) fn give_generated<'a, O: EventTaker<'a>>(
+    out: &mut O,
+    place: Place,
+    text: GeneratedText,
+    font: Option<Font>,
+    before: Join,
+    after: Join,
+)
+    ensures { Came O.left out.old (spec_generated_word place text font before after ∷ []) out.new }
+{
+    out.give(generated_word(place, text, font, before, after));
+}
+
+/// Gives what a macro changes in its line.
+#[inline(always)]
+pub(crate) fn give_line_step<'a, O: EventTaker<'a>>(
+    out: &mut O,
+    place: Place,
+    step: LineStep<&'a [u8]>,
+)
+    requires { IsShort (printed.step_event place (step_view step)) }
+    ensures { Came O.left out.old (printed.step_event place (step_view step.entry) ∷ []) out.new }
+{
+    out.give(step_event(place, step));
 }
 
 /// What a macro changes in its line.

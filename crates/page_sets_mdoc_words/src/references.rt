@@ -7,9 +7,9 @@ ghost use Rattle.page_sets_mdoc_lines.specs.laws.Views.{words_view};
 ghost use Rattle.page_sets_mdoc_words.specs.Inlines as inlines;
 
 use crate::plain::give_printed;
-use crate::printed::printed_word;
+use crate::printed::{give_generated, give_word};
 use page_core_base::LINE;
-use page_sets_lines::{EventTaker, GeneratedText, Join, generated_word, word_place};
+use page_sets_lines::{EventTaker, GeneratedText, Join, word_place};
 use page_sets_mdoc_lines::{Words, is_real};
 
 // The section, in parentheses.
@@ -26,13 +26,13 @@ fn give_section<'a, O: EventTaker<'a>>(out: &mut O, number: u32, text: &'a [u8],
                 GeneratedText::OpenParenthesis,
                 GeneratedText::CloseParenthesis,
             );
-            out.give(generated_word(place, opening, None, Join::Glued, Join::Glued));
-            out.give(printed_word(number, None, word));
-            out.give(generated_word(place, closing, None, Join::Glued, Join::Apart));
+            give_generated(out, place, opening, None, Join::Glued, Join::Glued);
+            give_word(out, number, None, word);
+            give_generated(out, place, closing, None, Join::Glued, Join::Apart);
             give_printed(out, number, None, text, left);
             return;
         }
-        out.give(printed_word(number, None, word));
+        give_word(out, number, None, word);
     }
 }
 
@@ -49,7 +49,7 @@ pub(crate) fn give_reference<'a, O: EventTaker<'a>>(
 {
     let mut left = words;
     while let Some(word) = left.read(text) {
-        out.give(printed_word(number, None, word));
+        give_word(out, number, None, word);
         if is_real(word) {
             give_section(out, number, text, left);
             return;

@@ -4,20 +4,16 @@ ghost use Rattle.std.specs.Prelude.{◌≡◌, ◌≤◌, [], ◌∷◌, false, 
 ghost use Rattle.page_sets_lines.specs.declared.line_steps.LineStep.TheVariants.{ManualName};
 ghost use Rattle.page_core_base.specs.laws.Views.{Came};
 ghost use Rattle.page_roff_syntax.specs.laws.Views.{argument_view};
-ghost use Rattle.page_sets_lines.specs.laws.Events.{event_view};
+ghost use Rattle.page_sets_lines.specs.laws.Views.{ArgumentFits};
 ghost use Rattle.page_sets_mdoc_lines.specs.machine.Cursors.{IsCursorOf};
 ghost use Rattle.page_sets_mdoc_lines.specs.laws.Views.{words_view};
 ghost use Rattle.page_sets_mdoc_words.specs.Inlines.{step_event};
 ghost use Rattle.page_sets_mdoc_words.specs.Sentences as sentences;
-ghost use Rattle.page_sets_lines.specs.Lines.{generated_word as spec_generated_word};
-ghost use Rattle.page_sets_lines.specs.declared.events.Join.TheVariants.{Apart};
 
-use crate::printed::step_event;
+use crate::printed::{give_generated, give_line_step};
 use page_core_base::{Font, LINE, Place};
 use page_roff_syntax::Argument;
-use page_sets_lines::{
-    Event, EventTaker, GeneratedText, Join, LineStep, Role, generated_word, word_event,
-};
+use page_sets_lines::{EventTaker, GeneratedText, Join, LineStep, Role, word_event};
 use page_sets_mdoc_lines::{Sentence, Words};
 
 /// How many names there are.
@@ -88,25 +84,26 @@ fn sentence_end(sentence: Sentence, is_plural: bool) -> GeneratedText
 }
 
 // A word of the sentence that is not its last one.
-fn sentence_word<'a>(place: Place, text: GeneratedText) -> Event<&'a [u8]>
-    ensures { event_view result ≡ sentences.sentence_word place text }
+fn give_sentence_word<'a, O: EventTaker<'a>>(out: &mut O, place: Place, text: GeneratedText)
+    ensures { Came O.left out.old (sentences.sentence_word place text ∷ []) out.new }
 {
-    generated_word(place, text, None, Join::Apart, Join::Parted)
+    give_generated(out, place, text, None, Join::Apart, Join::Parted);
 }
 
 // A name in the sentence.
-fn sentence_name(number: u32, name: Argument<&[u8]>) -> Event<&[u8]>
-    ensures { event_view result ≡ sentences.sentence_name number (argument_view name.entry) }
+fn give_name<'a, O: EventTaker<'a>>(out: &mut O, number: u32, name: Argument<&'a [u8]>)
+    requires { ArgumentFits (argument_view name) }
+    ensures { Came O.left out.old (sentences.sentence_name number (argument_view name.entry) ∷ []) out.new }
 {
     let font = Some(Font::B);
-    word_event(
+    out.give(word_event(
         number,
         Role::Argument,
         font,
         Join::Apart,
         Join::Parted,
         name,
-    )
+    ));
 }
 
 // How the rest of the sentence is beside what comes before it; the name of the manual does not part it.
@@ -119,19 +116,12 @@ fn end_join(all: NameCount) -> Join
     }
 }
 
-// The rest of the sentence as a word.
-fn end_word<'a>(place: Place, all: NameCount, text: GeneratedText) -> Event<&'a [u8]>
-    ensures { event_view result ≡ spec_generated_word place text None (sentences.end_join all) Apart }
-{
-    generated_word(place, text, None, end_join(all), Join::Apart)
-}
-
 // What is glued to a name.
 fn give_mark<'a, O: EventTaker<'a>>(out: &mut O, place: Place, mark: Option<GeneratedText>)
     ensures { Came O.left out.old (sentences.marked place mark []) out.new }
 {
     if let Some(text) = mark {
-        out.give(generated_word(place, text, None, Join::Glued, Join::Parted));
+        give_generated(out, place, text, None, Join::Glued, Join::Parted);
     }
 }
 
@@ -140,7 +130,7 @@ fn give_and<'a, O: EventTaker<'a>>(out: &mut O, place: Place, left: NameCount)
     ensures { Came O.left out.old (sentences.joined place left []) out.new }
 {
     if let NameCount::One = left {
-        out.give(sentence_word(place, GeneratedText::And));
+        give_sentence_word(out, place, GeneratedText::And);
     }
 }
 
@@ -162,12 +152,12 @@ fn give_names<'a, O: EventTaker<'a>>(
     let mut left = names;
     while let Some(name) = left.read(text) {
         let others = name_count(text, left);
-        out.give(sentence_name(place.line, name));
+        give_name(out, place.line, name);
         give_mark(out, place, name_mark(sentence, has_comma(all, others)));
         give_and(out, place, others);
     }
     let end = sentence_end(sentence, is_plural(all));
-    out.give(end_word(place, all, end));
+    give_generated(out, place, end, None, end_join(all), Join::Apart);
 }
 
 // The name of the manual, where no name is given, with what is glued to it.
@@ -182,7 +172,7 @@ fn give_manual_name<'a, O: EventTaker<'a>>(
         else []) out.new }
 {
     if let NameCount::Zero = all {
-        out.give(step_event(place, LineStep::ManualName));
+        give_line_step(out, place, LineStep::ManualName);
         give_mark(out, place, name_mark(sentence, false));
     }
 }
@@ -202,7 +192,7 @@ pub fn give_sentence<'a, O: EventTaker<'a>>(
         (sentences.sentence_events place sentence (words_view text.now names)) out.new }
 {
     let all = name_count(text, names);
-    out.give(sentence_word(place, GeneratedText::The));
+    give_sentence_word(out, place, GeneratedText::The);
     give_manual_name(out, place, sentence, all);
     give_names(out, place, sentence, all, text, names);
 }

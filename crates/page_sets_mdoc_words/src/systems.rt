@@ -10,7 +10,7 @@ ghost use Rattle.page_sets_lines.specs.Lines.{generated_word as spec_generated_w
 ghost use Rattle.page_sets_lines.specs.declared.events.Join.TheVariants.{Apart};
 
 use crate::plain::give_printed;
-use crate::printed::{is_opening, printed_word};
+use crate::printed::{give_generated, give_word, is_opening};
 use page_core_base::{LINE, Place};
 use page_sets_lines::{Event, EventTaker, GeneratedText, Join, generated_word};
 use page_sets_mdoc_lines::{System, Words, is_real};
@@ -47,21 +47,22 @@ pub(crate) fn give_bsd<'a, O: EventTaker<'a>>(
     requires within { IsCursorOf text.now words.cursor }
     ensures { Came O.left out.old (inlines.bsd place (words_view text.now words)) out.new }
 {
+    let bsd = GeneratedText::Bsd;
     let mut left = words;
     while let Some(word) = left.read(text) {
         if is_real(word) {
-            out.give(printed_word(place.line, None, word));
-            out.give(generated_word(place, GeneratedText::Bsd, None, Join::Glued, Join::Apart));
+            give_word(out, place.line, None, word);
+            give_generated(out, place, bsd, None, Join::Glued, Join::Apart);
             give_printed(out, place.line, None, text, left);
             return;
         }
         if !is_opening(word) {
-            out.give(generated_word(place, GeneratedText::Bsd, None, Join::Apart, Join::Apart));
-            out.give(printed_word(place.line, None, word));
+            give_generated(out, place, bsd, None, Join::Apart, Join::Apart);
+            give_word(out, place.line, None, word);
             give_printed(out, place.line, None, text, left);
             return;
         }
-        out.give(printed_word(place.line, None, word));
+        give_word(out, place.line, None, word);
     }
-    out.give(generated_word(place, GeneratedText::Bsd, None, Join::Apart, Join::Apart));
+    give_generated(out, place, bsd, None, Join::Apart, Join::Apart);
 }
