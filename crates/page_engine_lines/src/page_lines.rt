@@ -63,13 +63,21 @@ fn boxed_body(alloc: Global, settings: &Settings) -> Result<Box<Body>, AllocErro
     Ok(body)
 }
 
+// A copy of the body of a page, in memory of its own.
+fn boxed_copy(alloc: Global, body: &Body) -> Result<Box<Body>, AllocError>
+    ensures { IfOk result (λ copy. copy.value ≡ body.now) }
+{
+    let copy = Box::new(alloc, body.copy(alloc)?)?;
+    Ok(copy)
+}
+
 impl PageLines {
     /// Between two source lines, where this is held. All memory is reserved here.
     pub fn at(alloc: Global, part: &LinesPart) -> Result<PageLines, AllocError>
         ensures { IfOk result (λ l. l ≡ part.now) }
     {
+        let body = boxed_copy(alloc, &part.body)?;
         let roff = RoffLines::at(alloc, part.body.output(), &part.roff)?;
-        let body = Box::new(alloc, part.body.copy(alloc)?)?;
         Ok(PageLines { roff, body })
     }
 
@@ -87,10 +95,10 @@ impl PageLines {
         ensures ok { IfOk result (λ l. l ≡ edges.start_of settings.now) }
         ensures fault { IfErr result (λ fault. fault ≡ Fault.Memory) }
     {
-        let Ok(roff) = RoffLines::new(alloc, settings.output) else {
+        let Ok(body) = boxed_body(alloc, settings) else {
             return Err(Fault::Memory);
         };
-        let Ok(body) = boxed_body(alloc, settings) else {
+        let Ok(roff) = RoffLines::new(alloc, settings.output) else {
             return Err(Fault::Memory);
         };
         Ok(PageLines { roff, body })

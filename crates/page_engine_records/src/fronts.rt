@@ -27,10 +27,10 @@ impl PageFront {
         ensures ok { IfOk result (λ page. front_of page ≡ fronts.start settings.now) }
         ensures fault { IfErr result (λ fault. fault ≡ Fault.Memory) }
     {
-        let lines = PageLines::new(alloc, settings)?;
         let Ok(name) = NameReader::new(alloc, Side::Before) else {
             return Err(Fault::Memory);
         };
+        let lines = PageLines::new(alloc, settings)?;
         Ok(PageFront { lines, name })
     }
 

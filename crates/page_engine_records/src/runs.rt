@@ -55,10 +55,10 @@ impl RecordRun {
         ensures ok { IfOk result (λ run. StartsAt run settings.now) }
         ensures fault { IfErr result (λ fault. fault ≡ Fault.Memory) }
     {
-        let page = PageFront::new(alloc, settings)?;
         let Ok(cutter) = Cutter::new(alloc, settings.encoding) else {
             return Err(Fault::Memory);
         };
+        let page = PageFront::new(alloc, settings)?;
         Ok(RecordRun { page, cutter })
     }
 
@@ -186,17 +186,19 @@ pub fn read_record<S: Source>(
     if let Err(fault) = settings.check() {
         return Err(Fault::Settings(fault));
     }
-    let Ok(run) = RecordRun::new(alloc, settings) else {
-        return Err(Fault::Memory);
-    };
     let Ok(room) = RecordRoom::new(alloc) else {
         return Err(Fault::Memory);
     };
+    let Ok(run) = RecordRun::new(alloc, settings) else {
+        return Err(Fault::Memory);
+    };
     let mut run = run;
-    if let Err(fault) = run.read_all(source) {
-        return Err(fault);
+    let read = run.read_all(source);
+    let record = run.into_record(room);
+    match read {
+        Ok(()) => Ok(record),
+        Err(fault) => Err(fault),
     }
-    Ok(run.into_record(room))
 }
 
 /// Reads the record of a page as [`read_record`] does, of a reader. Where this counts its failures, each fault has its cause.
