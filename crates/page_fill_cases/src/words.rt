@@ -9,8 +9,8 @@ use page_test_streams::font_named;
 
 fn fonts_named(letters: &[u8]) -> [Font; 32] {
     let mut fonts = [Font::R; 32];
-    for (font, letter) in fonts.iter_mut().zip(letters) {
-        *font = font_named(Some(*letter));
+    for at in 0..32 {
+        fonts[at] = font_named(letters.get(at).copied());
     }
     fonts
 }

@@ -122,7 +122,7 @@ fn given_by(alloc: Global, style: TextStyle, times: u32, gap: u32, text: &str) -
 }
 
 // Texts after one blank, how often words of them are taken, and what they give.
-const TEXTS: [(TextStyle, u32, &str, &str); 38] = [
+static TEXTS: [(TextStyle, u32, &str, &str); 38] = [
     (LINE, 9, "a b cd", "(Ra b cd)R"),
     (LINE, 0, "a b cd", "1[a]1[b]1[cd]R"),
     (LINE, 9, "abc", "(Rabc)R"),
@@ -209,7 +209,7 @@ const TEXTS: [(TextStyle, u32, &str, &str); 38] = [
 ];
 
 // Texts that do not come after one blank: the blanks before them, how often words are taken, and what they give.
-const FIRST: [(u32, u32, &str, &str); 8] = [
+static FIRST: [(u32, u32, &str, &str); 8] = [
     (0, 9, "a b cd", "[a](Rb cd)R"),
     (2, 9, "a b cd", "2(Ra b cd)R"),
     (2, 0, "a b cd", "2[a]1[b]1[cd]R"),
@@ -221,7 +221,7 @@ const FIRST: [(u32, u32, &str, &str); 8] = [
 ];
 
 // Texts in a font after one blank: how often words are taken, and what they give.
-const IN_FONTS: [(Font, u32, &str, &str); 9] = [
+static IN_FONTS: [(Font, u32, &str, &str); 9] = [
     (Font::B, 9, "word", "(Bword)B"),
     (Font::B, 0, "word", "1B[word]B"),
     (Font::I, 9, "a", "(Ia)I"),
@@ -240,16 +240,16 @@ const IN_FONTS: [(Font, u32, &str, &str); 9] = [
 
 #[test]
 fn words_at_once(rt: HostRuntime) -> Result<(), Fail> {
-    for (style, times, text, wanted) in TEXTS {
-        let given = given_by(rt.alloc(), style, times, 1, text);
+    for (style, times, text, wanted) in &TEXTS {
+        let given = given_by(rt.alloc(), *style, *times, 1, text);
         check_bytes(&rt, given.shown.text(), wanted.as_bytes(), text);
     }
-    for (gap, times, text, wanted) in FIRST {
-        let given = given_by(rt.alloc(), LINE, times, gap, text);
+    for (gap, times, text, wanted) in &FIRST {
+        let given = given_by(rt.alloc(), LINE, *times, *gap, text);
         check_bytes(&rt, given.shown.text(), wanted.as_bytes(), text);
     }
-    for (font, times, text, wanted) in IN_FONTS {
-        let given = given_in(rt.alloc(), font, LINE, times, 1, text);
+    for (font, times, text, wanted) in &IN_FONTS {
+        let given = given_in(rt.alloc(), *font, LINE, *times, 1, text);
         check_bytes(&rt, given.shown.text(), wanted.as_bytes(), text);
     }
     Ok(())

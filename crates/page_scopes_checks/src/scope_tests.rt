@@ -173,7 +173,7 @@ fn given_by(alloc: Global, script: &str) -> Result<Shown, AllocError> {
 
 // Letters as above; then what they give, and what the page's end gives. A `#` shows how many scopes are open; `*` opens as many margins as there
 // may be scopes, and `/` closes as many, of which nothing is shown.
-const CASES: [(&str, &str); 34] = [
+static CASES: [(&str, &str); 34] = [
     ("RUr", "RSUR!BadNest UR;)1)0 "),
     ("R3", "RS!FewerRs; !MissingEnd RS;)0"),
     ("R0", "RS!FewerRs; !MissingEnd RS;)0"),
@@ -230,7 +230,7 @@ fn check_script(rt: &impl Abort, alloc: Global, script: &str, wanted: &str) -> R
 
 #[test]
 fn scopes_of_events(rt: HostRuntime) -> Result<(), Fail> {
-    for (script, wanted) in CASES {
+    for (script, wanted) in &CASES {
         check_script(&rt, rt.alloc(), script, wanted)?;
     }
     Ok(())

@@ -67,7 +67,7 @@ const KEPT: TextStyle = TextStyle {
 };
 
 // Texts after a sentence, and what they give.
-const TEXTS: [(TextStyle, &str, &str); 29] = [
+static TEXTS: [(TextStyle, &str, &str); 29] = [
     (LINE, "a  b", "2[a]1[b] 1"),
     (LINE, "a\t b", "2[a]1t[b] 1"),
     (LINE, "a \\fBb\\fP c", "2[a]1B[b]1[c] 1"),
@@ -117,8 +117,8 @@ const TEXTS: [(TextStyle, &str, &str); 29] = [
 
 #[test]
 fn texts(rt: HostRuntime) -> Result<(), Fail> {
-    for (style, text, wanted) in TEXTS {
-        let given = given_by(rt.alloc(), style, 2, true, text);
+    for (style, text, wanted) in &TEXTS {
+        let given = given_by(rt.alloc(), *style, 2, true, text);
         check_bytes(&rt, given.text(), wanted.as_bytes(), text);
     }
     Ok(())
@@ -174,7 +174,7 @@ fn columns_of(alloc: Global, text: &str) -> ShownBy<Columns> {
 }
 
 // A blank before the text, its words, and the white space before each; at its end white space is where its last word is, or the word before it.
-const COLUMNS: [(&str, &str); 6] = [
+static COLUMNS: [(&str, &str); 6] = [
     ("a b", " 10 10 12 12"),
     ("a b  ", " 10 10 12 12 12 12"),
     ("a\\fBb ", " 10 10 10 10"),
@@ -185,7 +185,7 @@ const COLUMNS: [(&str, &str); 6] = [
 
 #[test]
 fn columns_of_white_space(rt: HostRuntime) -> Result<(), Fail> {
-    for (text, wanted) in COLUMNS {
+    for (text, wanted) in &COLUMNS {
         let columns = columns_of(rt.alloc(), text);
         check_bytes(&rt, columns.notation.brief.text(), wanted.as_bytes(), text);
     }
@@ -238,7 +238,7 @@ fn glued_by(alloc: Global, is_literal: bool, first: &str, second: &str) -> Shown
 }
 
 // Two arguments, in rows that are filled and in rows that are kept.
-const GLUED: [(bool, &str, &str, &str); 5] = [
+static GLUED: [(bool, &str, &str, &str); 5] = [
     (false, "a", "b", "1B[a]!Unterminated;I[b] 1"),
     (false, "int ", "b.", "1B[int]!Unterminated;1I[b.] 2"),
     (true, "int ", "b", "B[int][ ]!Unterminated;I[b] 1"),
@@ -248,8 +248,8 @@ const GLUED: [(bool, &str, &str, &str); 5] = [
 
 #[test]
 fn arguments_side_by_side(rt: HostRuntime) -> Result<(), Fail> {
-    for (is_literal, first, second, wanted) in GLUED {
-        let glued = glued_by(rt.alloc(), is_literal, first, second);
+    for (is_literal, first, second, wanted) in &GLUED {
+        let glued = glued_by(rt.alloc(), *is_literal, first, second);
         check_bytes(&rt, glued.text(), wanted.as_bytes(), first);
     }
     Ok(())

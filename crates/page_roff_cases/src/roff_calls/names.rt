@@ -55,9 +55,12 @@ impl Roff {
     }
 
     fn set_arguments(&mut self, text: &str) {
+        let text = text.as_bytes();
         let mut packed = [0; MOST];
-        for (place, byte) in packed.iter_mut().zip(text.bytes()) {
-            *place = if byte == b';' { b'\n' } else { byte };
+        for at in 0..MOST {
+            if at < text.len() {
+                packed[at] = if text[at] == b';' { b'\n' } else { text[at] };
+            }
         }
         self.arguments.set(&packed[..text.len().min(MOST)]);
     }

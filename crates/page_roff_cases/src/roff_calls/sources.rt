@@ -141,12 +141,13 @@ fn run_line(roff: &mut Roff, number: u32, text: &[u8], given: &mut Vec<u8>) -> R
 // Adds a finished line: its form, where its name ends in a control line, and its text.
 fn add_line(given: &mut Vec<u8>, taken: Taken<'_>) -> io::Result<()> {
     let text = shown(taken.text);
-    match taken.form {
-        Form::Text => writeln!(given, "text {text}"),
-        Form::Blank => writeln!(given, "blank {text}"),
-        Form::Control => writeln!(given, "control {} {text}", taken.name_end),
-        Form::Raw => writeln!(given, "raw {text}"),
-    }
+    let form = match taken.form {
+        Form::Text => "text",
+        Form::Blank => "blank",
+        Form::Control => return writeln!(given, "control {} {text}", taken.name_end),
+        Form::Raw => "raw",
+    };
+    writeln!(given, "{form} {text}")
 }
 
 // Shows what was given, a line for each, with how often it came where it came several times in turn.
