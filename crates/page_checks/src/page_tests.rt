@@ -21,7 +21,7 @@ struct Case {
     source: u64,
 }
 
-const CASES: [Case; 8] = [
+static CASES: [Case; 8] = [
     Case {
         page: b".TH T 1 2020-01-01 S\n.SH NAME\nt \\- x\n",
         body: "N\u{8}NA\u{8}AM\u{8}ME\u{8}E\n       t - x\n",

@@ -85,7 +85,7 @@ fn counts<R: Abort + AllocGlobal>(
 }
 
 // The first row comes with the section header, the first message with line 3, and the footer at the end.
-const CASES: [Case; 14] = [
+static CASES: [Case; 14] = [
     ((0, 0, 0), None, (37, 36, 8, 2)),
     ((1, 0, 0), Some(Fault::Read), (1, 0, 0, 0)),
     ((22, 0, 0), Some(Fault::Read), (22, 21, 0, 0)),
@@ -106,12 +106,12 @@ const CASES: [Case; 14] = [
 #[test]
 fn stops_where_something_fails(rt: HostRuntime) {
     let settings = all_messages();
-    for (failing, fault, calls) in CASES {
+    for (failing, fault, calls) in &CASES {
         let want = match fault {
             None => outcome(Some(Level::Error), 6),
-            Some(fault) => Err(fault),
+            Some(fault) => Err(*fault),
         };
-        counts(&rt, &settings, failing, calls, want);
+        counts(&rt, &settings, *failing, *calls, want);
     }
 }
 

@@ -7,7 +7,7 @@ use std::process::Abort;
 use std::test::Fail;
 
 // The levels in their order, with their names.
-const LEVELS: &[(u32, Level, &str)] = &[
+static LEVELS: &[(u32, Level, &str)] = &[
     (0, Level::Base, "BASE"),
     (1, Level::Style, "STYLE"),
     (2, Level::Warning, "WARNING"),

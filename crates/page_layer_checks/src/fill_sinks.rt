@@ -21,7 +21,7 @@ macro_rules! word {
 }
 
 // Gives 5 rows and 2 messages.
-const PIECES: &[Piece<&'static [u8]>] = &[
+static PIECES: &[Piece<&'static [u8]>] = &[
     word!(b"abc"),
     Piece::Blank {
         count: 1,

@@ -64,7 +64,7 @@ fn is_known_as_free(alloc: Global, line: &str) -> Result<bool, Fail> {
 
 // Lines, and whether they are known to be free: no comment, no end of a block and no interpolation begins in them. Some have more bytes than a
 // vector has.
-const FREE_LINES: [(&str, bool); 16] = [
+static FREE_LINES: [(&str, bool); 16] = [
     ("words", true),
     (".SH NAME", true),
     (
@@ -97,9 +97,9 @@ const FREE_LINES: [(&str, bool); 16] = [
 
 #[test]
 fn knows_lines_that_are_free(rt: HostRuntime) -> Result<(), Fail> {
-    for (line, want) in FREE_LINES {
+    for (line, want) in &FREE_LINES {
         let is_free = is_known_as_free(rt.alloc(), line)?;
-        assert!(rt; is_free == want, "{line}");
+        assert!(rt; is_free == *want, "{line}");
     }
     Ok(())
 }

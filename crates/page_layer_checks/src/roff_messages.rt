@@ -7,7 +7,7 @@ use std::process::Abort;
 use std::test::Fail;
 
 // Eight messages: of a text, a condition, a request, a table, the end of a block, a call, the budget, and an open region.
-const PAGE: [&str; 12] = [
+static PAGE: [&str; 12] = [
     "\\*(zz", ".if z x", ".nr a b", ".TS", ".TE", "\\}", ".de m", ".m", "..", ".m", ".so x", ".ig",
 ];
 
@@ -38,7 +38,7 @@ fn run_line<N: NoteSink>(
 fn run_page<N: NoteSink>(roff: &mut Roff, notes: &mut N) -> Result<u64, Fault> {
     let mut lines = 0u64;
     let mut number = 0u32;
-    for line in PAGE {
+    for line in &PAGE {
         number = number.saturating_add(1);
         lines = lines.saturating_add(run_line(roff, line, number, notes)?);
     }

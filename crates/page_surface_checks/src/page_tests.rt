@@ -171,7 +171,7 @@ struct Stop {
     rows: &'static str,
 }
 
-const STOPS: &[Stop] = &[
+static STOPS: &[Stop] = &[
     Stop {
         failing: (0, 0),
         answer: Ok(()),
