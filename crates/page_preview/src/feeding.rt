@@ -20,8 +20,8 @@ pub(crate) fn outline_of(alloc: Global, text: &[u8]) -> Result<Outline, Fault> {
     let mut outline = Outline::new(alloc);
     let mut cutter = Cutter::new(alloc, settings.encoding)?;
     let mut lines = PageLines::new(alloc, &settings)?;
-    feed(&mut cutter, text, &mut lines, &mut outline)?;
-    Ok(outline)
+    let fed = feed(&mut cutter, text, &mut lines, &mut outline);
+    fed.map(|()| outline)
 }
 
 // Feeds all lines of a page, and its end.
