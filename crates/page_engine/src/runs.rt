@@ -172,6 +172,17 @@ impl Run {
         }
         self.finish(rows, notes)
     }
+
+    // What the page came to.
+    fn into_outcome(self) -> Outcome
+        ensures worst { result.worst ≡ self.page.worst }
+        ensures counts { result.counts ≡ self.page.counts }
+    {
+        Outcome {
+            worst: self.page.worst(),
+            counts: self.page.counts(),
+        }
+    }
 }
 
 /// Formats a page: reads all bytes of a source, in chunks of any size, gives the rows to one sink and the
@@ -198,13 +209,12 @@ pub fn run_sinks<S: Source, R: RowSink, N: NoteSink>(
     ensures notes_same { N.loans notes.new ≡ N.loans notes.old }
 {
     let mut run = Run::new(alloc, settings)?;
-    if let Err(fault) = run.read_all(source, rows, notes) {
-        return Err(fault);
+    let read = run.read_all(source, rows, notes);
+    let outcome = run.into_outcome();
+    match read {
+        Ok(()) => Ok(outcome),
+        Err(fault) => Err(fault),
     }
-    Ok(Outcome {
-        worst: run.page.worst(),
-        counts: run.page.counts(),
-    })
 }
 
 /// Formats a page as [`run_sinks`] does: reads a reader, and writes the rows to one writer and the messages,

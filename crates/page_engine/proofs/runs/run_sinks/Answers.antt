@@ -17,14 +17,24 @@ returns-in_err-run-clause-runs g c =
       rw (p.1, p.2) (runs_not_begun k g.met.R.RowSink.laws g.met.N.NoteSink.laws _ _ _ c.args.settings.now _ c.in_err-run.ensures.fault),
     )
 
-pub read_all-requires : goal.read_all-requires
-read_all-requires g c =
+pub read_all-read-requires : goal.read_all-read-requires
+read_all-read-requires g c =
     let s = c.in_ok-run.ensures.ok.1 in record {
       room = ap (λ (p : Point). p.line.consumed) s.point;
       free = s.free;
       no_line = ap (λ (p : Point). last_line p) s.point ∙ first_none c.args.settings.now.encoding;
       no_lines = s.no_lines;
     }
+
+pub returns-in-Ok-clause-runs : goal.returns-in-Ok-clause-runs
+returns-in-Ok-clause-runs g c =
+    let r = g.R.RowSink in
+    let n = g.N.NoteSink in
+    let k = sinks r.gave r.within r.failed n.gave n.within n.failed in
+    let s = c.in_ok-run.ensures.ok in
+    let h = c.in-Ok.ensures.reads (start c.args.settings.now) s.1.at in
+    let o = c.into_outcome-outcome.ensures in
+    (h.0, runs_well k c.args.settings.now _ h.0 _ s.1.point s.0 h.1 o.worst o.counts)
 
 pub returns-in-Err-clause-runs : goal.returns-in-Err-clause-runs
 returns-in-Err-clause-runs g c =
@@ -34,12 +44,3 @@ returns-in-Err-clause-runs g c =
     let s = c.in_ok-run.ensures.ok in
     let h = c.in-Err.ensures.reads (start c.args.settings.now) s.1.at in
     (h.0, runs_stopped k g.met.R.RowSink.laws g.met.N.NoteSink.laws c.args.settings.now _ h.0 c.in-Err.fault s.1.point s.0 h.1)
-
-pub returns-clause-runs : goal.returns-clause-runs
-returns-clause-runs g c =
-    let r = g.R.RowSink in
-    let n = g.N.NoteSink in
-    let k = sinks r.gave r.within r.failed n.gave n.within n.failed in
-    let s = c.in_ok-run.ensures.ok in
-    let h = c.in_default.ensures.reads (start c.args.settings.now) s.1.at in
-    (h.0, runs_well k c.args.settings.now _ h.0 _ s.1.point s.0 h.1 c.worst.ensures c.counts.ensures)
