@@ -217,6 +217,7 @@ fn after_operation<'a>(
 
 // An expression with the operations that follow it, inside which `room` parentheses more may be open.
 #[cycle(expression)]
+#[inline(always)]
 fn after_operations<'a>(so_far: Expression<'a>, scale: Scale, room: u32) -> Expression<'a>
     requires { count_of so_far.troubles + length so_far.rest.now < 2 ^ 64 }
     ensures value { (all : Read ℤ) → Goes (operand_by (inside_of room scale) scale) all (expression_view so_far.entry)
