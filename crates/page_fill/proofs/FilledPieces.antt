@@ -21,7 +21,7 @@ use Rattle.page_fill.specs.machine.Fill.{laid_piece}
 use Rattle.page_fill.specs.Words.{cell_content, printed_content, text_content, tab_content, RowWords, and_then, words_from, words_of, word_after_items, next_edge, going_on, words_laid, word_after}
 use Rattle.page_fill.specs.machine.Items.{laid_items}
 use Rattle.page_fill.proofs.Marks.{Mark, reported, opened, lettered, letters_of, printed_marks, character_marks, text_marks, tab_marks, blank_marks, opening_marks, is_of_words, piece_marks}
-use Rattle.page_fill.specs.Filled.{CellOrNote, shown, noted}
+use Rattle.page_fill.specs.Filled.{CellOrNote, noted}
 use Rattle.page_fill_rows.specs.laws.Views.{IsHeld}
 use Rattle.page_fill.specs.laws.Views.{is_sound}
 use Rattle.page_fill.proofs.MarkRuns.{run, run-append}

@@ -16,7 +16,7 @@ use Rattle.page_fill_rows.specs.OpenRows.{Sheet, fresh}
 use Rattle.page_fill_cells.specs.Cells.{blank, cells_of}
 use Rattle.page_fill_rows.specs.machine.Sheets.{letter, letters, space, spaces, new_word, opens, broken, empty_rows}
 use Rattle.page_fill_rows.specs.laws.Views.{character, characters, glyph, IsHeld}
-use Rattle.page_fill.specs.machine.Fill.{laid_piece, text, one_character, one_glyph, tab, opening, ended, paragraph, spaced, row_ended, heading, tag_ended, tag_end, after_tag, without_tag, stands, missing_rows}
+use Rattle.page_fill.specs.machine.Fill.{laid_piece, text, one_character, one_glyph, tab, opening, ended, paragraph, spaced, row_ended, heading, tag_ended, tag_end, after_tag, without_tag, missing_rows}
 
 pub letter-held : (s : Sheet) (cell : Cell) (place : Place) → IsHeld s → IsHeld (letter s cell place).edge
 unfolding letter

@@ -1,13 +1,13 @@
 //! The filler of a page, alone or with what it keeps of its open row.
 
-ghost use Rattle.std.specs.Prelude.{◌≡◌, ◌<◌, ◌≤◌, ℕ, true, false, List, [], ◌∷◌, length, map, replicate, IfOk, IfErr, IfSome, MatchOption, OnOk, OnErr, Some, None, Err, MatchResult};
-ghost use Rattle.page_core_base.specs.laws.Views.{FailsBySink, Gets, piece_of, is_printable_ascii, lettered_pieces};
+ghost use Rattle.std.specs.Prelude.{◌≡◌, ◌<◌, ◌≤◌, ℕ, true, false, List, [], ◌∷◌, length, map, replicate, IfOk, IfErr, IfSome, MatchOption, OnOk, Some, None, Err, MatchResult};
+ghost use Rattle.page_core_base.specs.laws.Views.{Gets, piece_of, is_printable_ascii, lettered_pieces};
 ghost use Rattle.page_core_base.specs.Rows.{nothing, shown};
 ghost use Rattle.page_core_base.specs.declared.blank_texts.TheConstants.{BLANK_TEXT};
 ghost use Rattle.page_core_base.specs.declared.limits.TheConstants.{CELLS};
 ghost use Rattle.page_core_base.specs.declared.pieces.Piece.{Piece};
 ghost use Rattle.page_core_base.specs.declared.pieces.Piece.TheVariants.{Text};
-ghost use Rattle.page_fill.specs.laws.Views.{FillFits, is_sound, AreKept, can_keep, AreWords, can_take};
+ghost use Rattle.page_fill.specs.laws.Views.{FillFits, UsesFiller, is_sound, AreKept, can_keep, AreWords, can_take};
 ghost use Rattle.page_fill_rows.specs.laws.Views.{IsHeld};
 ghost use Rattle.page_fill.specs.Words as fill;
 ghost use Rattle.page_fill.specs.laws.Views as fill_laws;
@@ -203,12 +203,7 @@ impl<K: KeepsRow> FillerWith<K> {
             (filled e (shown (piece_of piece.entry) ∷ [])) }
         ensures edge { (e : FillEdge) → self.old ≡ Some e
             → OnOk result (self.new ≡ Some (filled e (shown (piece_of piece.entry) ∷ [])).edge) }
-        ensures faults { (e : FillEdge) → self.old ≡ Some e
-            → FailsBySink result (R.failed rows.old) (R.failed rows.new) (N.failed notes.old) (N.failed notes.new) }
-        ensures closed { self.old ≡ None → (result ≡ Err Fault.Failed) × (rows.new ≡ rows.old) × (notes.new ≡ notes.old) }
-        ensures stops { OnErr result (self.new ≡ None) }
-        ensures rows_same { R.loans rows.new ≡ R.loans rows.old }
-        ensures notes_same { N.loans notes.new ≡ N.loans notes.old }
+        ensures sinks { UsesFiller result self.old self.new R.failed R.loans N.failed N.loans rows.old rows.new notes.old notes.new }
     {
         if !self.is_going {
             return Err(Fault::Failed);
@@ -239,12 +234,7 @@ impl<K: KeepsRow> FillerWith<K> {
             (filled e (replicate times (shown (Text (replicate count 32) font place)))) }
         ensures edge { (e : FillEdge) → self.old ≡ Some e
             → OnOk result (self.new ≡ Some (filled e (replicate times (shown (Text (replicate count 32) font place)))).edge) }
-        ensures faults { (e : FillEdge) → self.old ≡ Some e
-            → FailsBySink result (R.failed rows.old) (R.failed rows.new) (N.failed notes.old) (N.failed notes.new) }
-        ensures closed { self.old ≡ None → (result ≡ Err Fault.Failed) × (rows.new ≡ rows.old) × (notes.new ≡ notes.old) }
-        ensures stops { OnErr result (self.new ≡ None) }
-        ensures rows_same { R.loans rows.new ≡ R.loans rows.old }
-        ensures notes_same { N.loans notes.new ≡ N.loans notes.old }
+        ensures sinks { UsesFiller result self.old self.new R.failed R.loans N.failed N.loans rows.old rows.new notes.old notes.new }
     {
         if !self.is_going {
             return Err(Fault::Failed);
@@ -292,12 +282,7 @@ impl<K: KeepsRow> FillerWith<K> {
             (filled e (map shown (lettered_pieces blanks words))) }
         ensures edge { (e : FillEdge) (words : List (List (Piece (List ℕ)))) → self.old ≡ Some e → AreWords text.now fonts.now words
             → OnOk result (self.new ≡ Some (filled e (map shown (lettered_pieces blanks words))).edge) }
-        ensures faults { (e : FillEdge) → self.old ≡ Some e
-            → FailsBySink result (R.failed rows.old) (R.failed rows.new) (N.failed notes.old) (N.failed notes.new) }
-        ensures closed { self.old ≡ None → (result ≡ Err Fault.Failed) × (rows.new ≡ rows.old) × (notes.new ≡ notes.old) }
-        ensures stops { OnErr result (self.new ≡ None) }
-        ensures rows_same { R.loans rows.new ≡ R.loans rows.old }
-        ensures notes_same { N.loans notes.new ≡ N.loans notes.old }
+        ensures sinks { UsesFiller result self.old self.new R.failed R.loans N.failed N.loans rows.old rows.new notes.old notes.new }
     {
         if !self.is_going {
             return Err(Fault::Failed);
@@ -338,12 +323,8 @@ impl<K: KeepsRow> FillerWith<K> {
     ) -> Result<(), Fault>
         ensures gets { (e : FillEdge) → self.old ≡ Some e
             → Gets result R.gave R.within N.gave N.within rows.old rows.new notes.old notes.new (row_end e) }
-        ensures faults { (e : FillEdge) → self.old ≡ Some e
-            → FailsBySink result (R.failed rows.old) (R.failed rows.new) (N.failed notes.old) (N.failed notes.new) }
-        ensures closed { self.old ≡ None → (result ≡ Err Fault.Failed) × (rows.new ≡ rows.old) × (notes.new ≡ notes.old) }
         ensures ended { self.new ≡ None }
-        ensures rows_same { R.loans rows.new ≡ R.loans rows.old }
-        ensures notes_same { N.loans notes.new ≡ N.loans notes.old }
+        ensures sinks { UsesFiller result self.old self.new R.failed R.loans N.failed N.loans rows.old rows.new notes.old notes.new }
     {
         if !self.is_going {
             return Err(Fault::Failed);

@@ -2,11 +2,11 @@
 //! them.
 
 ghost use Rattle.std.specs.Prelude.{◌≡◌, ◌≤◌, ◌<◌, ◌+◌, ◌-◌, ◌==◌, ◌||◌, ℕ, List, drop, length, true};
-ghost use Rattle.page_core_base.specs.laws.Views.{FailsBySink, Gets, LaysOut, is_printable_ascii, lettered_pieces};
+ghost use Rattle.page_core_base.specs.laws.Views.{Gets, LaysOut, is_printable_ascii, lettered_pieces};
 ghost use Rattle.page_core_base.specs.Rows.{Laid};
 ghost use Rattle.page_core_base.specs.declared.limits.TheConstants.{CELLS};
 ghost use Rattle.page_core_base.specs.declared.pieces.Piece.{Piece};
-ghost use Rattle.page_fill.specs.laws.Views.{is_sound, AreWords, can_take, fits_after, is_in_row};
+ghost use Rattle.page_fill.specs.laws.Views.{UsesSinks, is_sound, AreWords, can_take, fits_after, is_in_row};
 ghost use Rattle.page_fill.specs.declared.edges.FillEdge.{FillEdge};
 ghost use Rattle.page_fill.specs.machine.Fill as fill;
 ghost use Rattle.page_fill.specs.machine.LetteredWords.{LaysUpTo, LaysWords};
@@ -138,10 +138,7 @@ impl FillEdge {
         ensures edge { (words : List (List (Piece (List ℕ)))) → AreWords text.now fonts.now words
             → self.new ≡ (fill.laid self.old (lettered_pieces blanks words)).edge }
         ensures sound { is_sound self.new.word ≡ true }
-        ensures faults { FailsBySink result (R.failed rows.old) (R.failed rows.new) (N.failed notes.old)
-            (N.failed notes.new) }
-        ensures rows_same { R.loans rows.new ≡ R.loans rows.old }
-        ensures notes_same { N.loans notes.new ≡ N.loans notes.old }
+        ensures sinks { UsesSinks result R.failed R.loans N.failed N.loans rows.old rows.new notes.old notes.new }
     {
         let mut latch = RowLatch::new(rows, notes);
         self.put_words(blanks, text, fonts, &mut latch);

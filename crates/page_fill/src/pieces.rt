@@ -1,10 +1,10 @@
 //! Pieces, one by one, over two sinks.
 
 ghost use Rattle.std.specs.Prelude.{◌≡◌, ◌≤◌, replicate, IfOk};
-ghost use Rattle.page_core_base.specs.laws.Views.{FailsBySink, Gets, LaysOut, piece_of};
+ghost use Rattle.page_core_base.specs.laws.Views.{Gets, LaysOut, piece_of};
 ghost use Rattle.page_core_base.specs.declared.blank_texts.TheConstants.{BLANK_TEXT};
 ghost use Rattle.page_core_base.specs.declared.pieces.Piece.TheVariants.{Text};
-ghost use Rattle.page_fill.specs.laws.Views.{under};
+ghost use Rattle.page_fill.specs.laws.Views.{UsesSinks, under};
 ghost use Rattle.page_fill.specs.machine.Fill as fill;
 
 use crate::edges::{FillEdge, NO_WORD};
@@ -81,10 +81,7 @@ impl FillEdge {
         ensures gets { Gets result R.gave R.within N.gave N.within rows.old rows.new notes.old notes.new
             (fill.laid_piece self.old (piece_of piece.entry)) }
         ensures edge { self.new ≡ (fill.laid_piece self.old (piece_of piece.entry)).edge }
-        ensures faults { FailsBySink result (R.failed rows.old) (R.failed rows.new) (N.failed notes.old)
-            (N.failed notes.new) }
-        ensures rows_same { R.loans rows.new ≡ R.loans rows.old }
-        ensures notes_same { N.loans notes.new ≡ N.loans notes.old }
+        ensures sinks { UsesSinks result R.failed R.loans N.failed N.loans rows.old rows.new notes.old notes.new }
     {
         let mut latch = RowLatch::new(rows, notes);
         take_piece(self, piece, &mut latch);
@@ -105,10 +102,7 @@ impl FillEdge {
         ensures gets { Gets result R.gave R.within N.gave N.within rows.old rows.new notes.old notes.new
             (fill.laid self.old (replicate times (Text (replicate count 32) font place))) }
         ensures edge { self.new ≡ (fill.laid self.old (replicate times (Text (replicate count 32) font place))).edge }
-        ensures faults { FailsBySink result (R.failed rows.old) (R.failed rows.new) (N.failed notes.old)
-            (N.failed notes.new) }
-        ensures rows_same { R.loans rows.new ≡ R.loans rows.old }
-        ensures notes_same { N.loans notes.new ≡ N.loans notes.old }
+        ensures sinks { UsesSinks result R.failed R.loans N.failed N.loans rows.old rows.new notes.old notes.new }
     {
         let mut latch = RowLatch::new(rows, notes);
         self.blank_texts(count, times, font, place, &mut latch);
@@ -119,10 +113,7 @@ impl FillEdge {
     pub fn end<R: RowSink, N: NoteSink>(&mut self, rows: &mut R, notes: &mut N) -> Result<(), Fault>
         ensures gets { Gets result R.gave R.within N.gave N.within rows.old rows.new notes.old notes.new
             (fill.ended self.old) }
-        ensures faults { FailsBySink result (R.failed rows.old) (R.failed rows.new) (N.failed notes.old)
-            (N.failed notes.new) }
-        ensures rows_same { R.loans rows.new ≡ R.loans rows.old }
-        ensures notes_same { N.loans notes.new ≡ N.loans notes.old }
+        ensures sinks { UsesSinks result R.failed R.loans N.failed N.loans rows.old rows.new notes.old notes.new }
     {
         let mut latch = RowLatch::new(rows, notes);
         self.end_row(&mut latch);

@@ -1,16 +1,34 @@
 -- What contracts of the code say by the definitions, and what is proved of these.
 use Rattle.std.specs.List.{list_all, prefix_len}
-use Rattle.std.specs.Prelude.{ℕ, List, ◌≤◌, length, Bool, not, ◌&&◌, ◌≡◌, true, ◌==◌, ◌+◌, nat_le, nat_lt, ◌||◌}
+use Rattle.std.specs.Prelude.{ℕ, List, ◌≤◌, length, Bool, not, ◌&&◌, ◌≡◌, true, ◌==◌, ◌+◌, nat_le, nat_lt, ◌||◌, Option, Some, None, Result, Err, OnErr}
 use Rattle.page_core_base.specs.Limits.{CELLS}
-use Rattle.page_core_base.specs.laws.Views.{font_cells, is_kept, word_letters, is_printable_ascii, cells_in, is_lettered_word, joined_cells}
+use Rattle.page_core_base.specs.laws.Views.{FailsBySink, font_cells, is_kept, word_letters, is_printable_ascii, cells_in, is_lettered_word, joined_cells}
 use Rattle.page_core_base.specs.declared.cells.Cell.{Cell}
 use Rattle.page_core_base.specs.declared.cells.Font.{Font}
+use Rattle.page_core_base.specs.declared.faults.Fault.{Fault}
+use Rattle.page_core_base.specs.declared.faults.Fault.TheVariants.{Failed}
 use Rattle.page_core_base.specs.declared.page_settings.Output.{Output}
 use Rattle.page_core_base.specs.declared.pieces.Piece.{Piece}
 use Rattle.page_fill_cells.specs.Cells.{columns}
 use Rattle.page_fill_rows.specs.OpenRows.{TAG_COLUMNS, BLANK_ROWS}
 use Rattle.page_fill.specs.declared.edges.FillEdge.{FillEdge}
 use Rattle.page_fill.specs.declared.edges.OpenWord.{OpenWord}
+
+-- what a call did to two sinks that it gave to: its fault is that of one that failed, and both lend what they lent
+pub record UsesSinks {R N K L : Type 0} (res : Result (Unit {0}) Fault) (rows_failed : R → ℕ) (rows_loans : R → K) (notes_failed : N → ℕ)
+    (notes_loans : N → L) (r r' : R) (n n' : N) : Type 0 where
+  pub faults : FailsBySink res (rows_failed r) (rows_failed r') (notes_failed n) (notes_failed n')
+  pub rows_same : rows_loans r' ≡ rows_loans r
+  pub notes_same : notes_loans n' ≡ notes_loans n
+
+-- the same of a filler's call, which does nothing where the filler is of no use; after a fault it is of none
+pub record UsesFiller {R N K L : Type 0} (res : Result (Unit {0}) Fault) (old new : Option FillEdge) (rows_failed : R → ℕ) (rows_loans : R → K)
+    (notes_failed : N → ℕ) (notes_loans : N → L) (r r' : R) (n n' : N) : Type 0 where
+  pub faults : (e : FillEdge) → old ≡ Some e → FailsBySink res (rows_failed r) (rows_failed r') (notes_failed n) (notes_failed n')
+  pub closed : old ≡ None → (res ≡ Err Failed) × (r' ≡ r) × (n' ≡ n)
+  pub stops : OnErr res (new ≡ None)
+  pub rows_same : rows_loans r' ≡ rows_loans r
+  pub notes_same : notes_loans n' ≡ notes_loans n
 
 -- the edge, on a page of this width, of an output
 abbrev pub under : ℕ → Output → FillEdge → FillEdge

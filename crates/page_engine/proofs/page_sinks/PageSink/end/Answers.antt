@@ -40,4 +40,4 @@ returns-clause-ends g c = λ f e d p q r.
     let y = laid_items x.edge (footer_items e.lines (last_line e) (fill.blank_rows_at_end x.edge)) in
     let z = rw (s, r, b) at (c.in_default-footer.ensures.gives.0 x.edge a.filler) in
     ends_join j k _ _ c.finish.result x (footer_laid e x.edge) a
-    (ends_after j k _ _ c.finish.result y (row_end y.edge) z (c.finish.ensures.gets y.edge z.filler) (c.finish.ensures.faults y.edge z.filler))
+    (ends_after j k _ _ c.finish.result y (row_end y.edge) z (c.finish.ensures.gets y.edge z.filler) (c.finish.ensures.sinks.faults y.edge z.filler))

@@ -25,11 +25,11 @@ returns-in_err-words-clause-takes g c =
     let p = err_from_is_err_and c.from_residual.result c.from_residual.ensures.1 in
     let w = c.words.ensures in
     rw (p.1, p.2) (λ words are cells.
-    words_broke _ _ _ _ _ _ c.words.result _ _ _ _ _ _ c.args.blanks c.args.text.now c.args.fonts.now w.gets w.edge w.faults w.closed
+    words_broke _ _ _ _ _ _ c.words.result _ _ _ _ _ _ c.args.blanks c.args.text.now c.args.fonts.now w.gets w.edge w.sinks.faults w.sinks.closed
     c.held_law.ensures.row c.held_law.ensures.word words are cells _ c.in_err-words.was)
 
 pub returns-clause-takes : goal.returns-clause-takes
 returns-clause-takes g c = λ words are cells.
     let w = c.words.ensures in
-    words_took _ _ _ _ _ _ c.words.result _ _ _ _ _ _ c.args.blanks c.args.text.now c.args.fonts.now w.gets w.edge w.faults w.closed
+    words_took _ _ _ _ _ _ c.words.result _ _ _ _ _ _ c.args.blanks c.args.text.now c.args.fonts.now w.gets w.edge w.sinks.faults w.sinks.closed
     c.held_law.ensures.row c.held_law.ensures.word words are cells _ c.in_ok-words.was

@@ -1,4 +1,4 @@
-use Rattle.std.proofs.Common.{◌+◌, ◌-◌, ◌^◌, ◌++◌, [], refl, ◌∙◌, length, length-append, arith}
+use Rattle.std.proofs.Common.{◌-◌, ◌^◌, ◌++◌, [], refl, ◌∙◌, length, length-append, arith}
 use Rattle.std.proofs.lemmas.Result.{err_from_is_err_and}
 use Rattle.page_core_streams.proofs.GivenLemmas.{busy_lean}
 use Rattle.page_engine.specs.laws.Views.{sinks}

@@ -12,7 +12,5 @@ returns g c =
     c.done.result c.new-latch.ensures.fault c.end_row.ensures.0 c.done.ensures in
     record {
       gets = search (rules, k.rows_loan, k.notes_loan, k.gets);
-      faults = search (rules, k.rows_loan, k.notes_loan, k.faults);
-      rows_same = search (rules, k.rows_loan, k.rows_same);
-      notes_same = search (rules, k.notes_loan, k.notes_same);
+      sinks = record { faults = search (rules, k.rows_loan, k.notes_loan, k.faults); rows_same = search (rules, k.rows_loan, k.rows_same); notes_same = search (rules, k.notes_loan, k.notes_same) };
     }

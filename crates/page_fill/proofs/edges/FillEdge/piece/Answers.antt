@@ -15,7 +15,5 @@ returns g c =
     record {
       gets = search (rules, k.rows_loan, k.notes_loan, k.gets);
       edge = c.take_piece.ensures.1;
-      faults = search (rules, k.rows_loan, k.notes_loan, k.faults);
-      rows_same = search (rules, k.rows_loan, k.rows_same);
-      notes_same = search (rules, k.notes_loan, k.notes_same);
+      sinks = record { faults = search (rules, k.rows_loan, k.notes_loan, k.faults); rows_same = search (rules, k.rows_loan, k.rows_same); notes_same = search (rules, k.notes_loan, k.notes_same) };
     }

@@ -19,7 +19,5 @@ returns g c =
       gets = λ words are. rw (← gave.2 words are ready) (search (rules, k.rows_loan, k.notes_loan, k.gets));
       edge = λ words are. gave.1.1 ∙ ap (λ (l : Laid FillEdge). l.edge) (gave.2 words are ready);
       sound = c.put_words.ensures.sound;
-      faults = search (rules, k.rows_loan, k.notes_loan, k.faults);
-      rows_same = search (rules, k.rows_loan, k.rows_same);
-      notes_same = search (rules, k.notes_loan, k.notes_same);
+      sinks = record { faults = search (rules, k.rows_loan, k.notes_loan, k.faults); rows_same = search (rules, k.rows_loan, k.rows_same); notes_same = search (rules, k.notes_loan, k.notes_same) };
     }
