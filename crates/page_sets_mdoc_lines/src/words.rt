@@ -4,7 +4,7 @@ ghost use Rattle.std.specs.Prelude.{◌≡◌, ◌≤◌, length, IfSome};
 ghost use Rattle.page_roff_syntax.specs.laws.Views.{ReadsNext, argument_view};
 ghost use Rattle.page_sets_lines.specs.laws.Events.{given_view};
 ghost use Rattle.page_sets_lines.specs.laws.Views.{ArgumentFits, GivenFits};
-ghost use Rattle.page_sets_mdoc_lines.specs.laws.Views.{arguments_after, rest_parts, IsRestOf, rest_view, words_view, AreKnown, AreIn, IsFirstKnown, TakesWord};
+ghost use Rattle.page_sets_mdoc_lines.specs.laws.Views.{arguments_after, rest_parts, IsRestOf, rest_view, words_view, AreFound, TakesWord};
 ghost use Rattle.page_sets_mdoc_lines.specs.Parts.{parts, has_calls};
 ghost use Rattle.page_sets_mdoc_lines.specs.machine.Cursors.{IsCursorOf};
 
@@ -111,10 +111,7 @@ pub fn find_words(
 ) -> (MacroWords<'_>, Rest<'_>)
     requires short { length text.now ≤ LINE }
     requires within { IsCursorOf text.now cursor }
-    ensures fits { GivenFits (given_view result.0.taken) }
-    ensures stand { AreIn text.now result.0 }
-    ensures known { AreKnown text.now result.0 }
-    ensures first { IsFirstKnown text.now result.0 }
+    ensures found { AreFound text.now result.0 }
     ensures taken { given_view result.0.taken ≡ (parts begun parsed (arguments_after cursor.rest text.now)).taken }
     ensures words { words_view text.now result.0.all ≡ (parts begun parsed (arguments_after cursor.rest text.now)).words }
     ensures follows { result.0.follows ≡ has_calls (parts begun parsed (arguments_after cursor.rest text.now)).calls }

@@ -10,7 +10,7 @@ ghost use Rattle.page_sets_lines.specs.declared.events.EventKind.TheVariants as 
 ghost use Rattle.page_sets_lines.specs.declared.openers.Opener.TheVariants as begins;
 ghost use Rattle.page_sets_lines.specs.declared.openers.Closer.TheVariants as ends;
 ghost use Rattle.page_sets_mdoc_lines.specs.machine.Cursors.{IsCursorOf};
-ghost use Rattle.page_sets_mdoc_lines.specs.laws.Views.{AreIn, AreKnown, words_view};
+ghost use Rattle.page_sets_mdoc_lines.specs.laws.Views.{AreFound, words_view};
 ghost use Rattle.page_sets_mdoc_words.specs.Inlines as inlines;
 ghost use Rattle.page_sets_mdoc_words.specs.Inlines.{printed};
 
@@ -70,9 +70,7 @@ pub(crate) fn give_opened<'a, O: EventTaker<'a>>(
     words: &MacroWords<'a>,
 )
     requires short { length text.now ≤ LINE }
-    requires stand { AreIn text.now words.now }
-    requires known { AreKnown text.now words.now }
-    requires fits { GivenFits (given_view words.now.taken) }
+    requires found { AreFound text.now words.now }
     ensures { Came O.left out.old (inlines.opened name.entry.place name.entry.text.now pair
         (given_view words.now.taken) (words_view text.now words.now.all)) out.new }
 {

@@ -3,14 +3,14 @@
 ghost use Rattle.std.specs.Prelude.{◌≡◌, ◌≤◌, [], ◌∷◌, None, Some, length};
 ghost use Rattle.page_core_base.specs.laws.Views.{Came};
 ghost use Rattle.page_sets_lines.specs.laws.Events.{event_view, given_view, step_view};
-ghost use Rattle.page_sets_lines.specs.laws.Views.{GivenFits, IsShort};
+ghost use Rattle.page_sets_lines.specs.laws.Views.{IsShort};
 ghost use Rattle.page_sets_lines.specs.Lines.{event_at, generated_word};
 ghost use Rattle.page_sets_lines.specs.declared.events.EventKind.TheVariants as kinds;
 ghost use Rattle.page_sets_lines.specs.declared.openers.LineOpener.TheVariants as lines;
 ghost use Rattle.page_sets_names.specs.declared.generated_texts.GeneratedText.TheVariants.{Apostrophe};
 ghost use Rattle.page_sets_lines.specs.declared.events.Join.TheVariants.{Glued};
 ghost use Rattle.page_sets_mdoc_lines.specs.machine.Cursors.{IsCursorOf};
-ghost use Rattle.page_sets_mdoc_lines.specs.laws.Views.{AreIn, AreKnown, IsFirstKnown, words_view};
+ghost use Rattle.page_sets_mdoc_lines.specs.laws.Views.{AreFound, words_view};
 ghost use Rattle.page_sets_mdoc_words.specs.Inlines as inlines;
 ghost use Rattle.page_sets_mdoc_words.specs.Inlines.{printed, step_event};
 ghost use Rattle.page_sets_mdoc_words.specs.Sentences as synopses;
@@ -92,9 +92,7 @@ fn give_font_words<'a, O: EventTaker<'a>>(
     words: &MacroWords<'a>,
 )
     requires short { length text.now ≤ LINE }
-    requires stand { AreIn text.now words.now }
-    requires known { AreKnown text.now words.now }
-    requires first { IsFirstKnown text.now words.now }
+    requires found { AreFound text.now words.now }
     ensures { Came O.left out.old (inlines.with_words name.entry.place name.entry.text.now
         (words_view text.now words.now.all)
         (printed name.entry.place.line (Some font) (words_view text.now words.now.all))) out.new }
@@ -124,10 +122,7 @@ fn give_inline<'a, O: EventTaker<'a>>(
     words: &MacroWords<'a>,
 )
     requires short { length text.now ≤ LINE }
-    requires stand { AreIn text.now words.now }
-    requires known { AreKnown text.now words.now }
-    requires first { IsFirstKnown text.now words.now }
-    requires fits { GivenFits (given_view words.now.taken) }
+    requires found { AreFound text.now words.now }
     ensures { Came O.left out.old (inlines.inline_events name.entry.place name.entry.text.now inline
         (given_view words.now.taken) (words_view text.now words.now.all) words.now.follows) out.new }
 {
@@ -190,10 +185,7 @@ pub fn give_macro<'a, O: EventTaker<'a>>(
     words: &MacroWords<'a>,
 )
     requires short { length text.now ≤ LINE }
-    requires stand { AreIn text.now words.now }
-    requires known { AreKnown text.now words.now }
-    requires first { IsFirstKnown text.now words.now }
-    requires fits { GivenFits (given_view words.now.taken) }
+    requires found { AreFound text.now words.now }
     ensures { Came O.left out.old (synopses.placed_events first name.entry.place name.entry.text.now inline
         (given_view words.now.taken) (words_view text.now words.now.all) words.now.follows) out.new }
 {

@@ -4,7 +4,8 @@ use Rattle.std.specs.Prelude.{ℕ, ◌+◌, List, drop, take, ◌≡◌, ◌∷�
 use Rattle.page_roff_syntax.specs.Arguments.{arguments}
 use Rattle.page_roff_syntax.specs.laws.Views.{argument_view}
 use Rattle.page_roff_syntax.specs.declared.quotes.Argument.{Argument}
-use Rattle.page_sets_lines.specs.laws.Views.{ArgumentFits}
+use Rattle.page_sets_lines.specs.laws.Events.{given_view}
+use Rattle.page_sets_lines.specs.laws.Views.{ArgumentFits, GivenFits}
 use Rattle.page_sets_mdoc_lines.specs.Parts.{inside, outside, is_real, LineParts, parts, taken_first, if_parsed, word_call, InlineCall, front_len, has_calls, is_closing, call_first, tail_alone}
 use Rattle.page_sets_mdoc_lines.specs.machine.Cursors.{IsCursorOf}
 use Rattle.page_sets_mdoc_lines.specs.declared.macros.Inline.{Inline}
@@ -49,6 +50,13 @@ abbrev pub IsFirstKnown : List ℕ → MacroWords → Type 0
 IsFirstKnown text words =
     MatchOption words.first (words.all.count ≡ 0)
     (λ first. (0 < words.all.count) × IsFirstOf text (arguments_after words.all.cursor.rest text) first)
+
+-- these were found of a macro in the line, with what is known of them
+pub record AreFound (text : List ℕ) (words : MacroWords) : Type 0 where
+  pub fits : GivenFits (given_view words.taken)
+  pub stand : AreIn text words
+  pub known : AreKnown text words
+  pub first : IsFirstKnown text words
 
 -- the parts of a line whose first macro takes this word
 abbrev pub taken_onto : Option (Argument (List ℕ)) → LineParts → LineParts
