@@ -42,7 +42,7 @@ fn append_argument(text: &mut Vec<u8>, argument: Argument<&[u8]>)
     } else {
         append(text, argument.text);
     }
-    append(text, b"\n");
+    text.push_reserved(b'\n');
 }
 
 /// What is known of arguments that were packed.

@@ -182,7 +182,7 @@ impl InputFrame {
     {
         text.clear();
         append(text, line);
-        append(text, b"\n");
+        text.push_reserved(b'\n');
         self.line = NOWHERE;
         self.place = LinePlace::end();
         self.ahead = None;

@@ -25,4 +25,4 @@ returns-clause-items c =
           ] in
           rw w.text-is (w.append.ensures.items ∙ ap (λ (l : List ℕ). old ++ l) (sym plain))
     ] in
-    c.append-2.ensures.items ∙ ap (λ (l : List ℕ). l ++ (10 ∷ [])) value ∙ append_assoc old (argument_value a) (10 ∷ [])
+    c.push_reserved.ensures.items ∙ ap (λ (l : List ℕ). l ++ (10 ∷ [])) value ∙ append_assoc old (argument_value a) (10 ∷ [])

@@ -9,7 +9,7 @@ pub returns : goal.returns
 unfolding at_line
 returns c =
     let line = c.args.line.now in
-    let all = c.append-2.new.text.items in
+    let all = c.push_reserved.new.self.items in
     let old = c.args.self.now in
     let a : InputFrame = record {
       kind = old.kind;
@@ -22,9 +22,9 @@ returns c =
       turning = None;
     } in
     let e : all ≡ line ++ (10 ∷ []) =
-    c.append-2.ensures.items ∙ ap (λ bytes. bytes ++ (10 ∷ [])) (c.append.ensures.items ∙ ap (λ bytes. bytes ++ line) c.clear.ensures.items) in
+    c.push_reserved.ensures.items ∙ ap (λ bytes. bytes ++ (10 ∷ [])) (c.append.ensures.items ∙ ap (λ bytes. bytes ++ line) c.clear.ensures.items) in
     let none = page_none old.kind c.args.text.now.items c.requires.page in
-    let lines : a.lines ≡ span 0 (length (line ++ (10 ∷ []))) = ap (λ end. span 0 end) (c.len.ensures ∙ c.append-2.new.text.ok.0 ∙ ap length e) in
+    let lines : a.lines ≡ span 0 (length (line ++ (10 ∷ []))) = ap (λ end. span 0 end) (c.len.ensures ∙ c.push_reserved.new.self.ok.0 ∙ ap length e) in
     let new : IsNew a all [] (line ++ (10 ∷ [])) =
     new_of a all [] (line ++ (10 ∷ [])) [] (e ∙ sym (append-nil (line ++ (10 ∷ [])))) refl c.end-self.ensures refl lines (rw none tt) tt in
     let same = ap (λ cursor. cursor.levels.skipped) c.begin_line.ensures in
@@ -34,5 +34,5 @@ returns c =
       held = set.0;
       frame = set.1 ∙ ap (λ cursor. frame page old.region cursor (line ∷ []) None) c.begin_line.ensures;
       fits = omega (arith, ap length e, length-append line (10 ∷ []), c.requires.line.bounded);
-      capacity = omega (arith, c.clear.ensures.capacity, c.append.ensures.capacity, c.append-2.ensures.capacity);
+      capacity = omega (arith, c.clear.ensures.capacity, c.append.ensures.capacity, c.push_reserved.ensures.capacity);
     }
