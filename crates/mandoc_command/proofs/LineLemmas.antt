@@ -1,9 +1,8 @@
 -- The command line that `clap` is given, and what it says of the words.
-use Rattle.std.proofs.Common.{ℕ, sym, ap, ap₂, ◌∙◌, ◌≡◌, true, false, map, List, [], ◌∷◌, refl}
+use Rattle.std.proofs.Common.{ℕ, sym, ap, ap₂, ◌∙◌, ◌≡◌, true, false, map, List, [], ◌∷◌, refl, inl, inr}
 use Rattle.std.proofs.lemmas.List.{length-map}
 use Rattle.std.specs.List.{list_any}
 use Rattle.std.specs.Prelude.{Bool, not, ◌&&◌, ◌==◌, length, ◌⊎◌, Option, codes, option_map, unwrap_or}
-use Rattle.std.proofs.Common.{inl, inr}
 use Rattle.clap.specs.Built.{AddsArg, AddsInTurn}
 use Rattle.clap.specs.Words.{App, Row, Rule, with_rule, Kinds, IsAmong, app_of, fault_of, matched_of, raw_values, is_simple, is_simple_and_free, matches_of, rows_of}
 use Rattle.clap.specs.declared.builder.command.Command.{Command}

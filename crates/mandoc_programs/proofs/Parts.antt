@@ -1,9 +1,8 @@
 -- What came of pages.
 use Rattle.std.proofs.Common.{◌≡◌, ℕ, Bool, true, false, List, [], ◌∷◌, inl, inr, ◌++◌, Option, Some, None, Result, Ok, Err, refl, sym, ap, ◌∙◌, subst, length, take, drop, ◌<◌, ◌≤◌, append-nil, append_assoc, arith, map, ◌+◌, ◌-◌}
-use Rattle.std.specs.Prelude.{IsOk, IsSorted, MatchResult, ◌⊎◌}
+use Rattle.std.specs.Prelude.{IsOk, IsSorted, MatchResult, ◌⊎◌, ◌||◌, ◌==◌, codes, decimal, nat_eq}
 use Rattle.std.specs.Ordering.{is_lt}
 use Rattle.std.specs.declared.cmp.Ordering.{Ordering}
-use Rattle.std.specs.Prelude.{◌||◌, ◌==◌, codes, decimal, nat_eq}
 use lib.Pointwise.{pointwise}
 use borrow.Rule.Slice.PartMut.{mid_of, put_mid}
 use Rattle.std.proofs.Math.Seq.{take-append-add}

@@ -4,7 +4,6 @@ use Rattle.std.specs.List.{prefix_len}
 use Rattle.std.specs.Prelude.{ℕ, List, Bool, true, false, ◌==◌, ◌||◌, not, ◌&&◌, [], ◌∷◌, take, if◌then◌else◌, length, zero, suc, ◌-◌, drop, ◌+◌}
 use Rattle.page_core_base.specs.Bytes.{ascii, is_white, begins_white, begins_escape, begins_quote}
 use Rattle.page_core_escapes.specs.Meanings.{Meaning, escape_of}
-use Rattle.page_core_escapes.specs.declared.tokens.Token.TheVariants as tokens
 
 pub data TextToken : Type 0 where
   -- blanks and tabs

@@ -4,7 +4,6 @@ use Rattle.std.specs.Prelude.{ℕ, List, ◌+◌, ◌*◌, ◌∷◌, codes, [],
 use Rattle.unicode_width.specs.Width.{char_width}
 use Rattle.page_core_base.specs.declared.page_settings.Output.{Output}
 use Rattle.page_core_base.specs.declared.page_settings.Output.TheVariants.{Ascii, Utf8, Lint}
-use Rattle.page_core_tables.specs.declared.printing.Printed as code
 
 -- ---- The glyphs that have a name, of mandoc_char(7): which character a name stands for, and how a character is spelled in ASCII.
 

@@ -1,7 +1,6 @@
 -- The block tree of a page is that of the machine: helpers of proofs.
 use Rattle.std.proofs.Common.{◌≡◌, ℕ, zero, suc, Bool, true, false, ◌||◌, if◌then◌else◌, List, [], ◌∷◌, drop, map, refl, sym, ap, ◌∙◌, arith}
 use Rattle.page_core_base.specs.declared.places.Place.{Place}
-use Rattle.page_sets_lines.specs.declared.events.Event.{Event}
 use Rattle.page_sets_lines.specs.declared.events.EventKind.{EventKind}
 use Rattle.page_sets_lines.specs.declared.events.EventKind.TheVariants as kinds
 use Rattle.page_scopes_labels.specs.declared.labels.Label.{Label}

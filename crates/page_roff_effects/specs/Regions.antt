@@ -9,7 +9,7 @@ use Rattle.page_core_base.specs.declared.places.Place.{Place}
 use Rattle.page_roff_syntax.specs.Regions.{has_long_name, within_limit, macro_name, Opened, region_name}
 use Rattle.page_roff_syntax.specs.declared.region_heads.RegionHead.{RegionHead}
 use Rattle.page_roff_syntax.specs.declared.regions.RegionKind.{RegionKind}
-use Rattle.page_roff_syntax.specs.declared.regions.RegionKind.TheVariants.{Define, Append, Ignore, Table}
+use Rattle.page_roff_syntax.specs.declared.regions.RegionKind.TheVariants.{Define, Append, Ignore}
 use Rattle.page_roff_names.specs.Names.{Definitions, definition, with_text}
 use Rattle.page_roff_names.specs.declared.rows.EntryKind.TheVariants.{Macro}
 use Rattle.page_roff_heads.specs.declared.loops.LoopHead.{LoopHead}

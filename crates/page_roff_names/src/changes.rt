@@ -1,6 +1,5 @@
 //! Changes of one set of names, which shares its limits with the other.
-ghost use Rattle.std.specs.Prelude.{◌≡◌, ◌+◌, ◌<◌, ◌≤◌, [], ◌++◌, length};
-ghost use Rattle.std.specs.Prelude.{IsTrue, MatchOption, MatchResult, Some, None, unwrap_or, T};
+ghost use Rattle.std.specs.Prelude.{◌≡◌, ◌+◌, ◌<◌, ◌≤◌, [], ◌++◌, length, IsTrue, MatchOption, MatchResult, Some, None, unwrap_or, T};
 ghost use Rattle.std.specs.FinMap.{is_sorted};
 ghost use Rattle.std.specs.List.{insert, remove};
 ghost use Rattle.std.specs.Vec.{vec_capacity};

@@ -1,5 +1,5 @@
 -- The input stack as its innermost source changes: helpers of proofs.
-use Rattle.std.proofs.Common.{◌≡◌, ℕ, suc, ◌+◌, ◌-◌, ◌<◌, ◌≤◌, nat_lt, ◌==◌, true, false, List, Option, Some, None, [], ◌∷◌, ◌++◌, length, take, reverse, refl, ap, sym, ◌∙◌, arith, length-append}
+use Rattle.std.proofs.Common.{◌≡◌, ℕ, suc, ◌+◌, ◌<◌, ◌≤◌, nat_lt, ◌==◌, true, false, List, Option, Some, None, [], ◌∷◌, ◌++◌, length, take, reverse, refl, ap, sym, ◌∙◌, arith, length-append}
 use Rattle.std.specs.Vec.{vec_capacity}
 use Rattle.std.specs.Prelude.{◌*◌, drop, sum_by, All}
 use Rattle.std.proofs.Math.Seq.{take-append_seam, drop-append_seam}

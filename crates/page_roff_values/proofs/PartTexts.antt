@@ -100,10 +100,6 @@ ends_unless false d t o h = h
 abbrev CutTexts : Option CutText → Type 0
 CutTexts o = MatchOption o (Unit {0}) (λ c. IsText c.front × IsText c.rest)
 
-texts_if : (c : Bool) (o p : Option CutText) → CutTexts o → CutTexts p → CutTexts (if c then o else p)
-texts_if true o p h k = h
-texts_if false o p h k = k
-
 width_texts : (t : List ℕ) → IsText t → CutTexts (width_cut t)
 unfolding width_content_len
 width_texts [] h = tt

@@ -1,5 +1,5 @@
 -- What contracts of the code say by the definitions, and what is proved of these.
-use Rattle.std.specs.Prelude.{List, ◌+◌, ◌++◌, map, ◌≤◌, length, IfSome}
+use Rattle.std.specs.Prelude.{List, ◌++◌, map, ◌≤◌, length, IfSome}
 use Rattle.page_core_base.specs.Limits.{BODY}
 use Rattle.page_roff_names.specs.laws.Views.{DefinitionsFit}
 use Rattle.page_roff_effects.specs.States.{Memory, Given, PartOutcome, says, lines_of}

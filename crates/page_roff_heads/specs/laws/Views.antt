@@ -4,7 +4,6 @@ use Rattle.std.specs.Prelude.{ℕ, List, ◌+◌, ◌≤◌, length, Option, opt
 use Rattle.page_core_base.specs.Limits.{LINE}
 use Rattle.page_roff_heads.specs.Conditions.{placed, reads}
 use Rattle.page_roff_heads.specs.declared.conditions.Condition.{Condition}
-use Rattle.page_roff_heads.specs.declared.conditions.ConditionKind.TheVariants.{Expression}
 use Rattle.page_roff_heads.specs.declared.conditions.Test.{Test}
 use Rattle.page_roff_heads.specs.declared.conditions.Test.TheVariants as tests
 use Rattle.page_roff_heads.specs.declared.conditions.TestRead.{TestRead}

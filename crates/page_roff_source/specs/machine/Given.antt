@@ -1,6 +1,6 @@
 -- A machine: the lines of a page one after another, by what the parts of a source do. That they give what the forest of all lines gives is the law `forest_law`;
 -- trust needs no reading of it.
-use Rattle.std.specs.Prelude.{◌+◌, false, List, [], ◌++◌, map}
+use Rattle.std.specs.Prelude.{false, List, [], ◌++◌, map}
 use Rattle.page_roff_blocks.specs.machine.Run.{At}
 use Rattle.page_roff_values.specs.Values.{units_of}
 use Rattle.page_roff_blocks.specs.machine.Budgets.{Budgeted, language}

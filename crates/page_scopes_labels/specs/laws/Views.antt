@@ -1,7 +1,6 @@
 -- What contracts of the code say by the definitions, and what is proved of these.
 use Rattle.std.specs.Borrow.{Bor}
 use Rattle.std.specs.Prelude.{ℕ, List}
-use Rattle.page_scopes_labels.specs.Labels.{is_level}
 use Rattle.page_scopes_labels.specs.declared.labels.LabelRow.{LabelRow}
 use Rattle.page_scopes_labels.specs.declared.labels.ScopeEnd.{ScopeEnd}
 use Rattle.page_scopes_labels.specs.declared.labels.ScopeEnd.TheVariants.{Implied, Line, Closer}

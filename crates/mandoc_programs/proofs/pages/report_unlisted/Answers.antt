@@ -1,7 +1,6 @@
 use Rattle.std.proofs.Common.{ap, Ok, ◌∙◌, subst, sym}
 use Rattle.mandoc_programs.specs.declared.bearings.Bearing.{Bearing}
-use Rattle.mandoc_programs.specs.Bearings.{bearing_of_folder}
-use Rattle.mandoc_programs.specs.Indexes.{OfUnlisted, after, with, unlisted_text}
+use Rattle.mandoc_programs.specs.Indexes.{OfUnlisted, with}
 use Rattle.mandoc_formats.specs.Turns.{Does}
 use Rattle.mandoc_programs.proofs.Parts.{quiet, unlisted}
 use Rattle.mandoc_formats.proofs.Waits.{written_into}

@@ -1,11 +1,10 @@
 use Rattle.std.specs.Fmt.{decimal, signed_decimal}
-use Rattle.std.proofs.Common.{◌-◌, ◌∷◌, length, codes, arith, ap, ◌∙◌, sym, rules, refl}
-use Rattle.std.proofs.Common.{w32}
+use Rattle.std.proofs.Common.{◌-◌, ◌∷◌, length, codes, arith, ap, ◌∙◌, sym, rules, refl, w32}
 use Rattle.std.proofs.lemmas.Int.{to_z-of_z}
 use Rattle.page_core_base.specs.declared.note_kinds.NoteKind.TheVariants.{Loop}
 use Rattle.page_roff_values.specs.machine.Views.{surroundings_of}
 use Rattle.page_roff_values.specs.machine.Rest.{calling, rest, room_in, steps, texts_of}
-use Rattle.page_roff_values.specs.Values.{TextSoFar, nothing, seq, says, ends, counts, put, inside, call_at, value, width}
+use Rattle.page_roff_values.specs.Values.{TextSoFar, nothing, seq, says, ends, counts, put, call_at, value, width}
 use Rattle.page_roff_parts.specs.machine.Views.{call_of}
 use Rattle.page_roff_values.proofs.CallLemmas.{call_ends, call_deep, gives, enters, string_some, string_none, argument_some, argument_none, register_some, width_some, steps_counts, steps_later, steps_less, size_value}
 use Rattle.page_roff_values.proofs.FollowLemmas.{put_follows, put_count, width_follows, value_follows}
