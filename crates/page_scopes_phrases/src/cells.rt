@@ -1,6 +1,5 @@
 //! Texts in the columns of a list (mdoc(7), `Bl -column`, `Ta`).
 ghost use Rattle.std.specs.Prelude.{◌≡◌, ◌≤◌, ◌<◌, ◌==◌, if◌then◌else◌, Bool, length, position, IfSome, take};
-ghost use Rattle.std.specs.List.{prefix_len};
 ghost use Rattle.page_core_escapes.specs.Tokens.{is_space, token_bytes};
 ghost use Rattle.page_core_escapes.specs.laws.Views.{token_view};
 ghost use Rattle.page_roff_syntax.specs.Arguments.{after_blanks};
@@ -14,6 +13,7 @@ use crate::phrases::is_text;
 use crate::{Formatting, Phrase, give_phrase};
 use page_core_base::{LINE, NoteKind, Piece, PieceOut, Place};
 use page_core_escapes::{Escape, Token, read_token};
+use page_roff_syntax::blank_len;
 use page_scopes_layout::Context;
 use page_scopes_words::report;
 use page_sets_lines::Join;
@@ -102,7 +102,7 @@ fn blanks_before_tab(text: &[u8]) -> Option<usize>
     ensures value { IfSome result (λ blanks. (quoted : Bool) → cells.span_of quoted text.now ≡ record { end = 0; tab = blanks }) }
     ensures within { IfSome result (λ blanks. blanks < length text.now) }
 {
-    let blanks = count_blanks(text);
+    let blanks = blank_len(text);
     if blanks < text.len() && text[blanks] == b'\t' {
         Some(blanks)
     } else {
@@ -159,19 +159,11 @@ fn after_tab(text: &[u8]) -> &[u8]
     }
 }
 
-// How many blanks are at a text's front.
-fn count_blanks(text: &[u8]) -> usize
-    ensures value { result ≡ prefix_len (λ byte. byte == 32) text.now }
-    ensures within { result ≤ length text.now }
-{
-    text.iter().take_while(|byte| **byte == b' ').count()
-}
-
 // A text without the blanks at its front.
 fn after_blanks(text: &[u8]) -> &[u8]
     ensures { result.now ≡ after_blanks text.now }
 {
-    &text[count_blanks(text)..]
+    &text[blank_len(text)..]
 }
 
 // The text of the first cell.
