@@ -3,7 +3,7 @@
 ghost use Rattle.std.specs.Prelude.{◌≤◌, ◌++◌, length};
 ghost use Rattle.page_core_base.specs.laws.Views.{Came};
 ghost use Rattle.page_sets_mdoc_lines.specs.machine.Cursors.{IsCursorOf};
-ghost use Rattle.page_sets_mdoc_lines.specs.laws.Views.{AreFound, words_view};
+ghost use Rattle.page_sets_mdoc_lines.specs.laws.Views.{AreIn, words_view};
 ghost use Rattle.page_sets_mdoc_words.specs.Inlines as inlines;
 
 use crate::plain::give_printed;
@@ -65,7 +65,7 @@ pub(crate) fn give_function<'a, O: EventTaker<'a>>(
     words: &MacroWords<'a>,
 )
     requires short { length text.now ≤ LINE }
-    requires found { AreFound text.now words.now }
+    requires stand { AreIn text.now words.now }
     ensures { Came O.left out.old (inlines.function_words place (words_view text.now words.now.inside)
         ++ inlines.function_end place (words_view text.now words.now.outside)) out.new }
 {

@@ -5,7 +5,7 @@ ghost use Rattle.page_core_base.specs.laws.Views.{Came};
 ghost use Rattle.page_roff_syntax.specs.laws.Views.{argument_view};
 ghost use Rattle.page_sets_lines.specs.laws.Views.{ArgumentFits};
 ghost use Rattle.page_sets_mdoc_lines.specs.machine.Cursors.{IsCursorOf};
-ghost use Rattle.page_sets_mdoc_lines.specs.laws.Views.{AreFound, words_view};
+ghost use Rattle.page_sets_mdoc_lines.specs.laws.Views.{AreIn, words_view};
 ghost use Rattle.page_sets_mdoc_words.specs.Inlines as inlines;
 ghost use Rattle.page_sets_mdoc_words.specs.Inlines.{printed};
 
@@ -72,7 +72,7 @@ pub(crate) fn give_link<'a, O: EventTaker<'a>>(
     words: &MacroWords<'a>,
 )
     requires short { length text.now ≤ LINE }
-    requires found { AreFound text.now words.now }
+    requires stand { AreIn text.now words.now }
     ensures { Came O.left out.old (inlines.link_words place (words_view text.now words.now.inside)
         ++ printed place.line None (words_view text.now words.now.outside)) out.new }
 {

@@ -5,7 +5,7 @@ ghost use Rattle.page_core_base.specs.laws.Views.{Came};
 ghost use Rattle.page_roff_syntax.specs.laws.Views.{argument_view};
 ghost use Rattle.page_sets_lines.specs.laws.Views.{ArgumentFits};
 ghost use Rattle.page_sets_mdoc_lines.specs.machine.Cursors.{IsCursorOf};
-ghost use Rattle.page_sets_mdoc_lines.specs.laws.Views.{AreFound, words_view};
+ghost use Rattle.page_sets_mdoc_lines.specs.laws.Views.{IsFirstKnown, words_view};
 ghost use Rattle.page_sets_mdoc_words.specs.Inlines.{refused};
 ghost use Rattle.page_sets_mdoc_words.specs.Inlines as printed;
 
@@ -73,7 +73,7 @@ pub fn give_found<'a, O: EventTaker<'a>>(
     words: &MacroWords<'a>,
 )
     requires short { length text.now ≤ LINE }
-    requires found { AreFound text.now words.now }
+    requires first { IsFirstKnown text.now words.now }
     ensures { Came O.left out.old (printed.printed number font (words_view text.now words.now.all)) out.new }
 {
     if let Some(first) = words.first {
