@@ -18,8 +18,8 @@ HEAD = """\
 # How many there are of each kind that the gate proves, tries and runs. After a change: `docs/check --write`, and a number that is smaller wants its
 # reason in the commit message.
 """
-# The scripts of cases, each with what its cases are called.
-SCRIPTS = {"tools/program_cases": "cases of the program", "contrib/check": "cases of contrib"}
+# The scripts that write or run cases, each with what these are called.
+SCRIPTS = {"tools/worked": "worked pages", "tools/program_cases": "cases of the program", "contrib/check": "cases of contrib"}
 
 
 def text_of(path):
@@ -78,7 +78,6 @@ def in_files():
         "crates with other edits": len({crate for _, crate in others}),
         "tests": sum(map(tests_of, crates)),
         **{f"cases of {crate}": cases_of(crate) for crate in programs_of_cases()},
-        "worked pages": sum(map(worked_pages_of, crates)),
     }
     for script, name in SCRIPTS.items():
         found[name] = int(subprocess.run([f"{TOP}/{script}", "--count"], check=True, capture_output=True, text=True).stdout)

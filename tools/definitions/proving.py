@@ -49,7 +49,7 @@ def fill_crate(room, worked, text):
     """The crate of worked pages with this one alone."""
     folder, own = f"{room}/crates/{CRATE}", f"{room}/crates/{CRATE}/proofs/asked/page_asked"
     for part in ("src", "proofs"):
-        shutil.rmtree(f"{folder}/{part}")
+        shutil.rmtree(f"{folder}/{part}", ignore_errors=True)
     os.makedirs(own)
     os.makedirs(f"{folder}/src")
     unfolded, count = worked.unfolded()

@@ -1,8 +1,8 @@
 //! Worked pages, as theorems: the checker computes the definitions on them, from bytes to bytes.
 //!
 //! Read `specs/Pages.antt`, the words in which they are written, and then any chapter. Each clause has the sentence of the manual that its page
-//! shows. `tools/worked` writes the chapters from the cases of `page_cases`, and `docs/check` compares them;
-//! `layers.rt` is written by hand: single layers, from the bytes of lines to rows.
+//! shows. The chapters and their proofs are not kept: the gate has `tools/worked` write them from the cases of
+//! `page_cases`. `layers.rt` is written by hand: single layers, from the bytes of lines to rows.
 //!
 //! Proved: `Shows`: what each page prints, and the messages about it (`specs/Pages.antt`).
 #![tactic(auto)]
