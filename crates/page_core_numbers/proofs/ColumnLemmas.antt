@@ -10,10 +10,10 @@ use Rattle.std.proofs.lemmas.Str.{byte_from_char, drop_past_char, chars_past_cha
 use Rattle.page_core_base.specs.declared.page_settings.Output.{Output}
 use Rattle.page_core_escapes.specs.Meanings.{escape_of}
 use Rattle.page_core_escapes.proofs.EscapeTexts.{escape_cuts}
-use Rattle.page_core_tables.specs.Glyphs.{char_printed, glyph_printed, char_columns}
+use Rattle.page_core_tables.specs.Glyphs.{char_printed, char_columns}
 use Rattle.page_core_tables.proofs.PrintedLemmas.{char_columns-printable}
 use Rattle.page_core_numbers.specs.Columns.{characters_columns, printed_escape, printed_front, front_len, printed_within, columns_of}
-use Rattle.page_core_numbers.specs.machine.Fronts.{Left, Front, Past, ShortColumns, ShortGlyph}
+use Rattle.page_core_numbers.specs.machine.Fronts.{Left, Front, Past}
 
 -- ---- single characters
 
@@ -105,17 +105,6 @@ front-of_escape output text rest columns len utf8 is some few same width =
     let front = front-escape output text rest 92 utf8 is refl in
     let first : get_or text 0 0 ≡ 92 = byte_from_char text rest 92 is (omega arith) in
     front-from output text columns len some few (rw width (escape_cuts text utf8 (omega arith))) (same ∙ ap characters_columns (sym front.0)) (width ∙ sym front.1)
-
--- an escape that few bytes tell
-pub front-of_short : (output : Output) (text rest : List ℕ) (columns len : ℕ) → IsUtf8 text → text ≡ encode_utf8 92 ++ rest → ShortColumns text columns len → Front output text columns len
-front-of_short output text rest columns len utf8 is short =
-    front-of_escape output text rest columns len utf8 is short.some (omega (arith, short.few)) (short.columns_are output) short.len_is
-
--- a glyph whose name is two bytes
-pub front-of_glyph : (output : Output) (text rest name : List ℕ) (columns : ℕ) → IsUtf8 text → text ≡ encode_utf8 92 ++ rest → ShortGlyph text name → columns ≤ 24
-    → columns ≡ characters_columns (glyph_printed output name).characters → Front output text columns 4
-front-of_glyph output text rest name columns utf8 is short few same =
-    front-of_escape output text rest columns 4 utf8 is (omega arith) (omega arith) (rw short.is same) (rw short.is refl)
 
 -- ---- what is left after it
 

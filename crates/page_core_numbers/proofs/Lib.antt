@@ -4,5 +4,4 @@ pub mod TroubleLemmas
 pub mod ExpressionLemmas
 pub mod ColumnLemmas
 pub mod PlainLemmas
-pub mod ShortColumnLemmas
 pub mod SpelledLemmas

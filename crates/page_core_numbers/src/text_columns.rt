@@ -1,21 +1,21 @@
 //! The columns of a finished text: mandoc_char(7); roff(7), "Escape sequences". It is read escape by escape, and the expressions in `\h`
 //! (`expressions`) count.
 
-ghost use Rattle.std.specs.Prelude.{◌*◌, ◌++◌, ◌≡◌, ◌≤◌, ◌<◌, length, take, slice_index, encode_utf8, IfSome, MatchOption, true, false};
+ghost use Rattle.std.specs.Prelude.{◌*◌, ◌++◌, ◌≡◌, ◌≤◌, ◌<◌, length, take, slice_index, encode_utf8, MatchOption, true, false};
 ghost use Rattle.std.specs.Str.{IsUtf8};
-ghost use Rattle.page_core_base.specs.Bytes.{ascii, is_among};
+ghost use Rattle.page_core_base.specs.Bytes.{ascii};
 ghost use Rattle.page_core_escapes.specs.laws.Views.{meaning_view};
 ghost use Rattle.page_core_tables.specs.Glyphs.{prints_ascii, by_spelling, char_printed, spelling_of};
 ghost use Rattle.page_core_tables.specs.laws.Views.{printed_view};
 ghost use Rattle.page_core_numbers.specs.laws.Views.{BeginsWith};
 ghost use Rattle.page_core_numbers.specs.Columns.{characters_columns, printed_escape, blanks_in, columns_of};
-ghost use Rattle.page_core_numbers.specs.machine.Fronts.{Front, Past, nothing_letters, one_letters, undefined_letters, ShortColumns, ShortGlyph};
+ghost use Rattle.page_core_numbers.specs.machine.Fronts.{Front, Past};
 ghost use Rattle.page_core_numbers.specs.machine.Plain.{is_plain, are_plain};
 
 use crate::expressions::read_expression;
 use crate::scales::Scale;
 use page_core_base::{LINE, Output, PARENS};
-use page_core_escapes::{Escape, escape, short_font};
+use page_core_escapes::{Escape, escape};
 use page_core_tables::{Printed, char_columns, printed_char, printed_glyph, spelling};
 
 // The columns of `\h` at most.
@@ -133,129 +133,9 @@ fn plain_len(text: &[u8]) -> usize
     at
 }
 
-// Whether the escape of this letter takes two bytes and prints nothing, as `\&`.
-#[inline(always)]
-fn prints_nothing(letter: u8) -> bool
-    ensures { result ≡ is_among letter nothing_letters }
-{
-    matches!(
-        letter,
-        b'&' | b')'
-            | b'|'
-            | b'^'
-            | b'%'
-            | b'/'
-            | b','
-            | b':'
-            | b'a'
-            | b'u'
-            | b'r'
-            | b'd'
-            | b'z'
-            | b'{'
-            | b'c'
-            | b'p'
-    )
-}
-
-// Whether the escape of this letter takes two bytes and prints a character of one column in each output, as `\-`.
-#[inline(always)]
-fn prints_one(letter: u8) -> bool
-    ensures { result ≡ is_among letter one_letters }
-{
-    matches!(
-        letter,
-        b' ' | b'~' | b'0' | b't' | b'e' | b'\\' | b'-' | b'`' | b'.'
-    )
-}
-
-// Whether there is no escape of this letter, so that the letter itself is printed in one column, as of `\q`.
-#[inline(always)]
-fn is_undefined(letter: u8) -> bool
-    ensures { result ≡ is_among letter undefined_letters }
-{
-    matches!(
-        letter,
-        b'!' | b'"'
-            | b'#'
-            | b'$'
-            | b'*'
-            | b'+'
-            | b'1'..=b'9'
-            | b';'..=b'@'
-            | b'E'
-            | b'G'
-            | b'I'..=b'K'
-            | b'O'..=b'Q'
-            | b'T'
-            | b'U'
-            | b'W'
-            | b']'
-            | b'_'
-            | b'i'
-            | b'j'
-            | b'n'
-            | b'q'
-            | b'w'
-            | b'y'
-            | b'}'
-    )
-}
-
-// The columns of the escape at a text's front, and how many bytes it takes, where few bytes say so.
-#[inline(always)]
-fn short_escape(text: &[u8]) -> Option<(u32, usize)>
-    requires { BeginsWith text.now (ascii "\\") }
-    ensures { IfSome result (λ found. ShortColumns text.now found.0 found.1) }
-{
-    if text.len() < 2 {
-        return None;
-    }
-    if prints_nothing(text[1]) {
-        return Some((0, 2));
-    }
-    if prints_one(text[1]) {
-        return Some((1, 2));
-    }
-    if is_undefined(text[1]) {
-        return Some((1, 2));
-    }
-    let (_, len) = short_font(text)?;
-    Some((0, len))
-}
-
-// The name of the glyph at a text's front, where two bytes of ASCII are it, as in `\(bu`.
-#[inline(always)]
-fn short_glyph(text: &[u8]) -> Option<&[u8]>
-    requires { BeginsWith text.now (ascii "\\") }
-    ensures { IfSome result (λ name. ShortGlyph text.now name.now) }
-{
-    if text.len() < 4 || text[1] != b'(' || !text[2].is_ascii() || !text[3].is_ascii() {
-        return None;
-    }
-    Some(&text[2..4])
-}
-
 // The columns of the escape at a text's front, and how many bytes it takes.
-#[inline(always)]
-fn escape_front(text: &str, output: Output) -> (u32, usize)
-    requires first { BeginsWith text.now (ascii "\\") }
-    requires line { length text.now ≤ LINE }
-    ensures { Front output text.now result.0 result.1 }
-{
-    let bytes = text.as_bytes();
-    if let Some(found) = short_escape(bytes) {
-        return found;
-    }
-    if let Some(name) = short_glyph(bytes) {
-        return (printed_columns(printed_glyph(output, name)), 4);
-    }
-    long_escape(bytes, output)
-}
-
-// The columns of any escape at a text's front, and how many bytes it takes.
 #[inline(never)]
-fn long_escape(text: &[u8], output: Output) -> (u32, usize)
+fn escape_front(text: &[u8], output: Output) -> (u32, usize)
     requires utf8 { IsUtf8 text.now }
     requires first { BeginsWith text.now (ascii "\\") }
     requires line { length text.now ≤ LINE }
@@ -322,7 +202,7 @@ fn front_columns<'a>(text: &'a str, first: char, after: &'a str, output: Output)
 {
     match first {
         '\\' => {
-            let (columns, len) = escape_front(text, output);
+            let (columns, len) = escape_front(text.as_bytes(), output);
             (columns, &text[len..])
         }
         ' '..='~' => {
