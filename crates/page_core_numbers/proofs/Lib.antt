@@ -4,4 +4,5 @@ pub mod TroubleLemmas
 pub mod ExpressionLemmas
 pub mod ColumnLemmas
 pub mod PlainLemmas
+pub mod PrintedLemmas
 pub mod SpelledLemmas

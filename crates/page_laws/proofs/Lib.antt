@@ -1,4 +1,3 @@
-pub mod PrintedLemmas
 pub mod OperationLemmas
 pub mod CellLemmas
 pub mod RoomLemmas

@@ -26,7 +26,7 @@ escape-some text some = from (escape_len false text) (λ n e. escape_len-some fa
     from (Some n) h = h n refl
 
 -- what is at a text's front has a byte, and what follows it is a text
-front-cuts : (text : List ℕ) → IsUtf8 text → 0 < length text → (0 < front_len text (chars text)) × IsUtf8 (drop (front_len text (chars text)) text)
+pub front-cuts : (text : List ℕ) → IsUtf8 text → 0 < length text → (0 < front_len text (chars text)) × IsUtf8 (drop (front_len text (chars text)) text)
 front-cuts text utf8 some =
     let f = first_of text utf8 some in
     elim (cases_Bool (f.code == 92)) [
@@ -45,7 +45,7 @@ front-cuts text utf8 some =
     past text rest c is = ap (λ t. drop (length (encode_utf8 c)) t) is ∙ drop-append_seam (encode_utf8 c) rest
 
 -- enough steps are as good as more
-printed-same : (n m : ℕ) (output : Output) (text : List ℕ) → IsUtf8 text → length text < n → length text < m → printed_within n output text ≡ printed_within m output text
+pub printed-same : (n m : ℕ) (output : Output) (text : List ℕ) → IsUtf8 text → length text < n → length text < m → printed_within n output text ≡ printed_within m output text
 unfolding printed_within
 printed-same zero m output text utf8 below above = absurd (omega arith)
 printed-same (suc n) zero output text utf8 below above = absurd (omega arith)
