@@ -1,17 +1,35 @@
 //! The set of macros of a page: one of the two (man(7), mdoc(7)).
 
-use crate::man_set::Man;
-use crate::mdoc_set::Mdoc;
+use crate::{man_gives, mdoc_lines};
 use page_core_base::Taken;
-use page_sets_lines::{Event, EventOut, MacroSet};
+use page_sets_lines::{Event, EventOut, EventTaker, Handed, MacroSet, Nth};
 
-/// The set of macros of a page: it acts as the one that it is. The place in a line's events is their number so far.
+/// The set of macros of a page. The place in a line's events is their number so far.
 #[derive(Clone, Copy, PartialEq, Eq)]
 pub enum Either {
     /// man(7).
     Man,
     /// mdoc(7).
     Mdoc,
+}
+
+impl Either {
+    ghost use Rattle.std.specs.Prelude.{◌≤◌, length};
+    ghost use Rattle.page_core_base.specs.laws.Views.{line_view, Came};
+    ghost use Rattle.page_core_base.specs.declared.limits.TheConstants.{LINE};
+    ghost use Rattle.page_sets.specs.Mdoc.{either_events};
+
+    // Gives the events of a line.
+    #[inline(always)]
+    fn give_events<'a, O: EventTaker<'a>>(self, out: &mut O, line: Taken<'a>)
+        requires { length line.text.now ≤ LINE }
+        ensures { Came O.left out.old (either_events self (line_view line.entry)) out.new }
+    {
+        match self {
+            Either::Man => man_gives::give_events(out, line),
+            Either::Mdoc => mdoc_lines::give_events(out, line),
+        }
+    }
 }
 
 impl MacroSet for Either {
@@ -38,32 +56,34 @@ impl MacroSet for Either {
 
     ghost few = { λ set line. (either_laws set line).few };
 
+    // The columns by which the text of a page is indented.
     fn indent(&self) -> u32 {
         match self {
-            Either::Man => Man.indent(),
-            Either::Mdoc => Mdoc.indent(),
+            Either::Man => 7,
+            Either::Mdoc => 5,
         }
     }
 
     fn start(&self, line: Taken<'_>) -> usize {
-        match self {
-            Either::Man => Man.start(line),
-            Either::Mdoc => Mdoc.start(line),
-        }
+        0
     }
 
+    #[tactic(auto, using(crate::specs::laws::Views::either_few))]
     fn next<'a>(&self, line: Taken<'a>, place: &mut usize) -> Option<Event<&'a [u8]>> {
-        match self {
-            Either::Man => Man.next(line, place),
-            Either::Mdoc => Mdoc.next(line, place),
+        let mut nth = Nth::new(*place);
+        self.give_events(&mut nth, line);
+        match nth.event() {
+            Some(event) => {
+                *place += 1;
+                Some(event)
+            }
+            None => None,
         }
     }
 
     #[inline(always)]
     fn give<O: EventOut>(&self, line: Taken<'_>, out: &mut O) {
-        match self {
-            Either::Man => Man.give(line, out),
-            Either::Mdoc => Mdoc.give(line, out),
-        }
+        let mut handed = Handed { out };
+        self.give_events(&mut handed, line);
     }
 }

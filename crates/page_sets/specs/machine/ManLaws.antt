@@ -1,5 +1,5 @@
 -- The macros of man(7) keep the laws of macro sets: proofs, which the set's laws cite. Source: man(7).
-use Rattle.std.proofs.Common.{◌≡◌, ℕ, ◌+◌, ◌*◌, ◌≤◌, Bool, true, false, ◌&&◌, List, [], ◌∷◌, length, drop, refl, arith, Option, None, Some, option_map, if◌then◌else◌}
+use Rattle.std.proofs.Common.{◌≡◌, ℕ, ◌≤◌, Bool, true, false, ◌&&◌, List, [], ◌∷◌, length, drop, refl, arith, Option, None, Some, option_map, if◌then◌else◌}
 use Rattle.page_core_base.specs.Texts.{TakenLine}
 use Rattle.page_core_base.specs.declared.cells.Font.{Font}
 use Rattle.page_core_base.specs.declared.cells.Font.TheVariants as fonts
@@ -38,7 +38,7 @@ use Rattle.page_sets.specs.declared.man_rows.Last.{Last}
 use Rattle.page_sets.specs.declared.man_rows.Last.TheVariants as lasts
 use Rattle.page_sets.specs.declared.man_rows.ManRow.{ManRow}
 use Rattle.page_sets.specs.Man.{alternating_words, argument_word, closer, effect_kind, has_words, kind_events, last_events, leaf, line_scope, lone_events, macro_events, man_events, missing_quote, named_events, one_word, opener, option_words, plain_words, quote_at, quote_events, reference_words, refused_events, row_of, section_words, words_events}
-use Rattle.page_sets.specs.machine.LineLaws.{HasOwnSlices, HoldsAt, IsLawful, line_lawful, slices_hold}
+use Rattle.page_sets.specs.machine.LineLaws.{HoldsAt, IsLawful, line_lawful}
 
 -- ---- slices
 
@@ -204,9 +204,3 @@ unfolding man_events
 man_lawful IsSo line h =
     line_lawful IsSo line false (named_events line (row_of (name_of line))) (plain_line line.form line.text) h
     (λ named. named_prints line IsSo h.start (h.name named) h.arguments (row_of (name_of line)))
-
-pub man_laws : (line : TakenLine) → IsLawful (HasOwnSlices line) line (man_events line)
-man_laws line = man_lawful (HasOwnSlices line) line (slices_hold line)
-
-pub man_few : (line : TakenLine) → length (man_events line) ≤ 2 * length line.text + 2
-man_few line = (man_laws line).few

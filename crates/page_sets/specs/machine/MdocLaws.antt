@@ -1,5 +1,5 @@
 -- The macros of mdoc(7) keep the laws of macro sets: proofs, which the set's laws cite. Source: mdoc(7).
-use Rattle.std.proofs.Common.{ℕ, ◌+◌, ◌*◌, ◌≤◌, Bool, true, false, ◌&&◌, not, List, [], ◌∷◌, ◌++◌, length, refl, arith, inl, inr, Option, None, Some}
+use Rattle.std.proofs.Common.{ℕ, ◌+◌, ◌≤◌, Bool, true, false, ◌&&◌, not, List, [], ◌∷◌, ◌++◌, refl, arith, inl, inr, Option, None, Some}
 use Rattle.std.proofs.lemmas.Bool.{cases_Bool}
 use Rattle.page_core_base.specs.Texts.{TakenLine}
 use Rattle.page_core_base.specs.declared.note_kinds.NoteKind.{NoteKind}
@@ -22,7 +22,7 @@ use Rattle.page_sets_mdoc_words.proofs.WordPrintLemmas.{printed_prints, include_
 use Rattle.page_sets_mdoc_blocks.specs.Fronts.{line_arguments, request_front, has_real_word, is_standard, given_names, block_front, has_phrase}
 use Rattle.page_sets_mdoc_blocks.proofs.FrontLemmas.{front_most, front_prints, request_front_prints, words_more}
 use Rattle.page_sets.specs.Mdoc.{field_font, include_words, words_events, refused_events, macro_events, request_events, named_events, mdoc_events}
-use Rattle.page_sets.specs.machine.LineLaws.{HasOwnSlices, HoldsAt, IsLawful, line_lawful, slices_hold}
+use Rattle.page_sets.specs.machine.LineLaws.{HoldsAt, IsLawful, line_lawful}
 use Rattle.page_sets.specs.machine.RestLaws.{head_prints, phrase_prints}
 
 -- what comes before the words and what they print have room for five events
@@ -101,9 +101,3 @@ unfolding mdoc_events
 mdoc_lawful IsSo line h =
     line_lawful IsSo line true (named_events (line_macro (name_of line)) line) (plain_line line.form line.text) h
     (λ named. named_keeps line IsSo h.start (h.name named) h.arguments (line_macro (name_of line)))
-
-pub mdoc_laws : (line : TakenLine) → IsLawful (HasOwnSlices line) line (mdoc_events line)
-mdoc_laws line = mdoc_lawful (HasOwnSlices line) line (slices_hold line)
-
-pub mdoc_few : (line : TakenLine) → length (mdoc_events line) ≤ 2 * length line.text + 2
-mdoc_few line = (mdoc_laws line).few

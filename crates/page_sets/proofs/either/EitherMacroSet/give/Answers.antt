@@ -1,5 +1,5 @@
 use Rattle.std.proofs.Common.{rules, refl}
-use Rattle.page_sets.proofs.man_set.ManMacroSet.give.Goals as goal
+use Rattle.page_sets.proofs.either.EitherMacroSet.give.Goals as goal
 
 pub returns : goal.returns
 returns g c = λ plan rest h.
