@@ -34,16 +34,11 @@ use Rattle.page_roff_effects.proofs.PlainLemmas.{counted_none}
 -- ---- lines that are no control lines
 
 text_taken : (setting : TextSetting) (text : List ℕ) (m : Memory) → GivesItself text → text_outcome setting text m ≡ gives_line forms.Text text 0 m
-text_taken setting text m g =
-    rw (g (surroundings false setting m) m.number refl) (ap (λ m. gives_line forms.Text text 0 m) (counted_none m))
+text_taken setting text m g = grind (arith, counted_none)
 
 text_form : (line : List ℕ) → has_word line ≡ true → name_of (uncommented_form line) ≡ None → uncommented_form line ≡ Text line
 text_form [] w e = let no : ⊥ = cc in absurd no
-text_form (x ∷ xs) w e =
-    elim (cases_Bool (is_control x)) [
-      | inl t ↦ let n = rw t at e in let no : ⊥ = cc in absurd no
-      | inr t ↦ rw t refl
-    ]
+text_form (x ∷ xs) w e = grind (arith, cases_Bool)
 
 pub free_text : (setting : TextSetting) (line : List ℕ) (m : Memory) → IsFreeLine line → length line ≤ LINE → name_of (form_of line) ≡ None
     → (may_call : Bool) → leaf_outcome setting may_call line m ≡ gives_line (plain_form line) line 0 m
@@ -65,8 +60,7 @@ free_leaf line h e = one_leaf line (plain_nameless line e) (unended line h)
 control_taken : (setting : TextSetting) (may_call : Bool) (line : ControlLine) (m : Memory) → (length line.name == 0) ≡ false → command_of line.name m.definitions ≡ Pass
     → GivesItself line.text → control_outcome setting may_call line m ≡ gives_line forms.Control line.text line.name_end m
 unfolding control_outcome command_outcome
-control_taken setting may_call line m n p g =
-    rw (n, p, g (surroundings false setting m) m.number refl) (ap (λ m. gives_line forms.Control line.text line.name_end m) (counted_none m))
+control_taken setting may_call line m n p g = grind (arith, counted_none)
 
 abbrev gives_call : MacroCall → Memory → PartOutcome
 gives_call call m = record { notes = []; product = call_product (lines_in call.body) (arguments_in call.packed); memory = m }
@@ -77,15 +71,12 @@ calls_closed column body args m c f = rw (c, f) refl
 
 quiet_call : (line : ControlLine) (text : List ℕ) (m : Memory) (call : MacroCall) → IsQuiet line.name (rest_of line text) (rest_column line) m call
     → does true Call line text m ≡ gives_call call m
-quiet_call line text m call q =
-    calls_closed line.column (unwrap_or (called_body line.name m.definitions) []) (arguments (rest_column line) (rest_of line text)) m q.closed q.fits
-    ∙ ap₂ (λ (body bytes : List ℕ). let made : MacroCall = record { body = body; packed = bytes } in gives_call made m) (sym q.body) (sym q.packs)
+quiet_call line text m call q = grind (arith, calls_closed, ap₂)
 
 control_called : (setting : TextSetting) (line : ControlLine) (m : Memory) (call : MacroCall) → (length line.name == 0) ≡ false → command_of line.name m.definitions ≡ Call
     → GivesItself line.text → IsQuiet line.name (rest_of line line.text) (rest_column line) m call → control_outcome setting true line m ≡ gives_call call m
 unfolding control_outcome command_outcome
-control_called setting line m call n p g q =
-    rw (n, p, g (surroundings false setting m) m.number refl) (ap (does true Call line line.text) (counted_none m) ∙ quiet_call line line.text m call q)
+control_called setting line m call n p g q = grind (arith, counted_none, quiet_call)
 
 -- the form of a line with a name is that of its bytes after the control character
 abbrev HasName : List ℕ → List ℕ → LineForm (List ℕ) → Type 0
@@ -93,11 +84,7 @@ HasName line name form = (form ≡ control_line (drop 1 line)) × (length name �
 
 first_named : (c : Bool) (x : ℕ) (bytes name : List ℕ) → name_of (if c then control_line bytes else Text (x ∷ bytes)) ≡ Some name
     → HasName (x ∷ bytes) name (if c then control_line bytes else Text (x ∷ bytes))
-first_named true x bytes name e =
-    let named = drop (name_start bytes) bytes in
-    let some : Some (take (name_len bytes) named) ≡ Some name = e in
-    let same : take (name_len bytes) named ≡ name = cc in
-    (refl, sym (ap length same) ∙ length-take-le (name_len bytes) named (prefix_len-le-length is_name named))
+first_named true x bytes name e = grind (arith, length-take-le, prefix_len-le-length)
 first_named false x bytes name e = let no : ⊥ = cc in absurd no
 
 all_named : (line name : List ℕ) → name_of (uncommented_form line) ≡ Some name → HasName line name (uncommented_form line)
@@ -120,14 +107,7 @@ pub free_control : (setting : TextSetting) (line name : List ℕ) (m : Memory) �
     → (length name == 0) ≡ false → command_of name m.definitions ≡ Pass
     → (may_call : Bool) → leaf_outcome setting may_call line m ≡ gives_line forms.Control line (1 + name_start (drop 1 line) + length name) m
 unfolding leaf_outcome
-free_control setting line name m h short e n p may_call =
-    let bytes = drop 1 line in
-    let u = uncommented line h in
-    let f = form_named line name u e in
-    let same : take (name_len bytes) (drop (name_start bytes) bytes) ≡ name = cc in
-    let ends : 2 + name_start bytes + name_len bytes - 1 ≡ name_end line = omega arith in
-    rw (f.0, same, ends, u, f.1)
-    (control_taken setting may_call (record { name = name; column = 2 + name_start bytes; name_end = name_end line; text = line }) m n p (free_itself line h short))
+free_control setting line name m h short e n p may_call = grind (arith, uncommented, form_named, control_taken, free_itself)
 
 -- what follows the name
 abbrev rest_after : List ℕ → List ℕ → List ℕ
@@ -140,15 +120,7 @@ free_call : (setting : TextSetting) (line name : List ℕ) (m : Memory) (call : 
     → (length name == 0) ≡ false → command_of name m.definitions ≡ Call → IsQuiet name (rest_after line name) (column_after line name) m call
     → leaf_outcome setting true line m ≡ gives_call call m
 unfolding leaf_outcome
-free_call setting line name m call h short e n p q =
-    let bytes = drop 1 line in
-    let u = uncommented line h in
-    let f = form_named line name u e in
-    let same : take (name_len bytes) (drop (name_start bytes) bytes) ≡ name = cc in
-    let ends : 2 + name_start bytes + name_len bytes - 1 ≡ name_end line = omega arith in
-    let control : ControlLine = record { name = name; column = 2 + name_start bytes; name_end = name_end line; text = line } in
-    let quiet : IsQuiet name (rest_of control line) (rest_column control) m call = rw f.1 at q in
-    rw (f.0, same, ends, u) (control_called setting control m call n p (free_itself line h short) quiet)
+free_call setting line name m call h short e n p q = grind (arith, uncommented, form_named, control_called, free_itself)
 
 -- ---- what a name stands for
 
@@ -177,9 +149,7 @@ pub packs_call : (name rest : List ℕ) (column : ℕ) (m : Memory) (call : Macr
     → Packs (packed (arguments column rest)) fits call.packed
     → (is_closed ≡ true → (line : ℕ) → closings_notes line (arguments column rest) ≡ [])
     → call.body ≡ unwrap_or (called_body name m.definitions) [] → IsQuiet name rest column m call
-packs_call name rest column m call fits is_closed f c p q b =
-    let within : Packs (packed (arguments column rest)) true call.packed = rw f at p in
-    record { body = b; packs = within.1; fits = sym within.0; closed = q c m.number }
+packs_call name rest column m call fits is_closed f c p q b = grind arith
 
 body_short : (body : Option (List ℕ)) → length (unwrap_or (within_limit body) []) ≤ BODY
 body_short None = omega arith

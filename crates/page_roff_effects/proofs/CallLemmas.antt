@@ -1,5 +1,5 @@
 -- A call that a line gives is within its limits: helpers of proofs.
-use Rattle.std.proofs.Common.{◌≡◌, ℕ, Bool, true, false, ◌==◌, ◌&&◌, List, length, refl, if◌then◌else◌}
+use Rattle.std.proofs.Common.{arith, ◌≡◌, ℕ, Bool, true, false, ◌==◌, ◌&&◌, List, length, refl, if◌then◌else◌}
 use Rattle.page_roff_syntax.specs.LineForms.{form_of}
 use Rattle.page_roff_syntax.specs.declared.line_forms.LineForm.{LineForm}
 use Rattle.page_roff_syntax.specs.declared.line_forms.LineForm.TheVariants.{Control}
@@ -42,15 +42,12 @@ control_by false may_call o m h = h
 control_within : (setting : TextSetting) (may_call : Bool) (line : ControlLine) (m : Memory)
     → IsWithin may_call (control_outcome setting may_call line m).product
 unfolding control_outcome
-control_within setting may_call line m =
-    control_by (length line.name == 0) may_call (command_outcome setting may_call (command_of line.name m.definitions) line m) m
-    (command_within setting may_call (command_of line.name m.definitions) line m)
+control_within setting may_call line m = grind (arith, control_by, command_within)
 
 form_within : (setting : TextSetting) (may_call : Bool) (raw : List ℕ) (form : LineForm (List ℕ)) (m : Memory)
     → IsWithin may_call (form_outcome setting may_call raw form m).product
 unfolding IsWithin
-form_within setting may_call raw (Control name column rest rest_column) m =
-    control_within setting may_call (control_line raw name column rest_column) m
+form_within setting may_call raw (Control name column rest rest_column) m = grind (arith, control_within)
 form_within setting may_call raw _ m = tt
 
 leaf_within : (setting : TextSetting) (may_call : Bool) (raw : List ℕ) (m : Memory)
@@ -69,5 +66,4 @@ if_called (loop_product condition lines) may_call a lends within = within
 pub leaf_callable : (setting : TextSetting) (may_call : Bool) (raw : List ℕ) (m : Memory) (result : ProductKind) (a : Acting)
     → result ≡ kind_of (leaf_outcome setting may_call raw m).product → Lends (leaf_outcome setting may_call raw m).product a
     → IfCalled result (IsCallable may_call a.call)
-leaf_callable setting may_call raw m result a kind lends =
-    rw kind (if_called (leaf_outcome setting may_call raw m).product may_call a lends (leaf_within setting may_call raw m))
+leaf_callable setting may_call raw m result a kind lends = grind (arith, if_called, leaf_within)

@@ -25,9 +25,7 @@ pair_front false line x y e f = f
 pub uncommented_front : (line : List ℕ) → IsFrontOf line (without_comment line)
 uncommented_front [] = refl
 uncommented_front (b ∷ []) = refl
-uncommented_front (b ∷ n ∷ bytes) =
-    pair_front (b == 92) (b ∷ n ∷ bytes) _ _ (comment_front (begins_comment n) b n bytes (without_comment bytes) (uncommented_front bytes))
-    (front_cons b (n ∷ bytes) (without_comment (n ∷ bytes)) (uncommented_front (n ∷ bytes)))
+uncommented_front (b ∷ n ∷ bytes) = grind (arith, pair_front, comment_front, uncommented_front bytes, front_cons, uncommented_front (n ∷ bytes))
 
 -- ---- the parts of a control line
 
@@ -37,15 +35,7 @@ IsWhole rest_column rest n = (1 ≤ rest_column) × (rest_column - 1 + length re
 
 control_size : (bytes name rest : List ℕ) (column rest_column : ℕ) → control_line bytes ≡ Control name column rest rest_column
     → IsWhole rest_column rest (suc (length bytes))
-control_size bytes name rest column rest_column e =
-    let c : 2 + name_start bytes + name_len bytes ≡ rest_column = cc in
-    let r : drop (name_len bytes) (drop (name_start bytes) bytes) ≡ rest = cc in
-    let s : name_start bytes ≤ length bytes = prefix_len-le-length is_white bytes in
-    let n : name_len bytes ≤ length (drop (name_start bytes) bytes) = prefix_len-le-length is_name (drop (name_start bytes) bytes) in
-    let k : length rest ≡ length (drop (name_len bytes) (drop (name_start bytes) bytes)) = sym (ap length r) in
-    let d = length-drop (name_start bytes) bytes in
-    let f = length-drop (name_len bytes) (drop (name_start bytes) bytes) in
-    (omega arith, omega arith)
+control_size bytes name rest column rest_column e = grind (arith, prefix_len-le-length, length-drop)
 
 byte_size : (c : Bool) (b : ℕ) (bytes name rest : List ℕ) (column rest_column : ℕ)
     → (if c then control_line bytes else Text (b ∷ bytes)) ≡ Control name column rest rest_column → IsWhole rest_column rest (suc (length bytes))

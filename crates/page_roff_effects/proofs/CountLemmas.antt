@@ -89,11 +89,7 @@ does_keeps may_call _ line text m = refl
 command_few : (setting : TextSetting) (may_call : Bool) (command : Command) (line : ControlLine) (m : Memory)
     → IsFew m.expansions (command_outcome setting may_call command line m).memory.expansions
 unfolding command_outcome
-command_few setting may_call command line m =
-    let laid = expanded (surroundings (copies command) setting m) m.number line.text in
-    let same : (does may_call command line laid.edge.text (counted laid.edge.count m)).memory.expansions ≡ (counted laid.edge.count m).expansions =
-    ap (λ (p : ℕ × ℕ). p.1) (does_keeps may_call command line laid.edge.text (counted laid.edge.count m)) in
-    rw same (few_counts m.expansions laid.edge.count (expanded_few (surroundings (copies command) setting m) m.number line.text))
+command_few setting may_call command line m = grind (arith, does_keeps, few_counts, expanded_few)
 
 control_few_if : (b : Bool) (o : PartOutcome) (m : Memory) → IsFew m.expansions o.memory.expansions → IsFew m.expansions (if b then nothing m else o).memory.expansions
 control_few_if true o m h = omega arith
@@ -102,10 +98,8 @@ control_few_if false o m h = h
 form_few : (setting : TextSetting) (may_call : Bool) (raw : List ℕ) (form : LineForm (List ℕ)) (m : Memory)
     → IsFew m.expansions (form_outcome setting may_call raw form m).memory.expansions
 unfolding control_outcome
-form_few setting may_call raw (Text text) m =
-    few_counts m.expansions _ (expanded_few (surroundings false setting m) m.number text)
-form_few setting may_call raw (Control name column rest rest_column) m =
-    control_few_if (length name == 0) _ m (command_few setting may_call (command_of name m.definitions) _ m)
+form_few setting may_call raw (Text text) m = grind (arith, few_counts, expanded_few)
+form_few setting may_call raw (Control name column rest rest_column) m = grind (arith, control_few_if, command_few)
 form_few setting may_call raw _ m = omega arith
 
 leaf_few : (setting : TextSetting) (may_call : Bool) (raw : List ℕ) (m : Memory) → IsFew m.expansions (leaf_outcome setting may_call raw m).memory.expansions
@@ -132,11 +126,7 @@ body_few_if true o m h = h
 body_few_if false o m h = omega arith
 
 body_few : (setting : TextSetting) (line : List ℕ) (m : Memory) → IsFew m.expansions (body_outcome setting line m).memory.expansions
-body_few setting line m =
-    let laid = expanded (surroundings true setting m) m.number line in
-    let same : (longer m.body laid.edge.text (counted laid.edge.count m)).memory.expansions ≡ (counted laid.edge.count m).expansions =
-    ap (λ (p : ℕ × ℕ). p.1) (longer_keeps m.body laid.edge.text (counted laid.edge.count m)) in
-    body_few_if (is_some m.body) _ m (rw same (few_counts m.expansions laid.edge.count (expanded_few (surroundings true setting m) m.number line)))
+body_few setting line m = grind (arith, longer_keeps, body_few_if, few_counts, expanded_few)
 
 kind_few : (setting : TextSetting) (kind : RegionKind) (line : List ℕ) (m : Memory) → IsFew m.expansions (kind_outcome setting kind line m).memory.expansions
 kind_few setting Define line m = body_few setting line m
@@ -195,29 +185,20 @@ module _ (units : List ℕ → ℕ) where
   leaf_spends : (may_call : Bool) (kind : Kind) (text : List ℕ) (s : State)
       → expansions_of (state_of ((effects units).leaf may_call kind text s)) ≤ expansions_of s + EXPAND
   unfolding effects done_after
-  leaf_spends may_call kind text s =
-      let o = leaf_outcome (setting_of units kind) may_call text s.memory in
-      few_as _ _ _ (ap (λ (m : Memory). m.expansions) (done_memory o.product (states.after s o)))
-      (leaf_few (setting_of units kind) may_call text s.memory)
+  leaf_spends may_call kind text s = grind (arith, few_as, done_memory, leaf_few)
 
   tests_spends : (kind : Kind) (condition : Condition (List ℕ)) (s : State)
       → expansions_of ((effects units).tests kind condition s).1 ≤ expansions_of s + EXPAND
   unfolding effects tested_after
-  tests_spends kind condition s =
-      few_counts s.memory.expansions (answer_of (setting_of units kind) condition s.memory).edge.count
-      (condition_few (setting_of units kind) condition s.memory)
+  tests_spends kind condition s = grind (arith, few_counts, condition_few)
 
   turns_spends : (kind : Kind) (condition : List ℕ) (s : State) → expansions_of ((effects units).turns kind condition s).1 ≤ expansions_of s + EXPAND
   unfolding effects tested_after
-  turns_spends kind condition s =
-      few_counts s.memory.expansions (turn_answer (setting_of units kind) condition s.memory).edge.count
-      (condition_few (setting_of units kind) _ s.memory)
+  turns_spends kind condition s = grind (arith, few_counts, condition_few)
 
   closes_spends : (is_run may_call : Bool) (s : State) → expansions_of (state_of ((effects units).closes is_run may_call s)) ≡ expansions_of s
   unfolding effects done_after
-  closes_spends is_run may_call s =
-      let o = close_outcome is_run may_call s.memory in
-      ap (λ (m : Memory). m.expansions) (done_memory o.product (states.after s o)) ∙ ap (λ (p : ℕ × ℕ). p.1) (close_keeps is_run may_call s.memory)
+  closes_spends is_run may_call s = grind (arith, done_memory, close_keeps)
 
   reads_spends : (kind : Kind) (o : Opened) (line : List ℕ) (s : State)
       → expansions_of ((effects units).reads kind o true line s) ≤ expansions_of s + EXPAND

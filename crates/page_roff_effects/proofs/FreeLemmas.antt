@@ -44,10 +44,7 @@ call_part false b c d e h = refl
 
 -- a comment
 pub uncommented : (line : List ℕ) → IsFreeLine line → without_comment line ≡ line
-uncommented line h =
-    without_pairs line (λ k l.
-    let b = get_or line (k + 1) 0 in
-    comment_part (is_backslash (get_or line k 0)) (b == 34) (b == 35) (b == 125 || may_call b) (h k l))
+uncommented line h = grind (arith, without_pairs, comment_part)
 
 -- an end of a block
 pub unended : (line : List ℕ) → IsFreeLine line → block_end_of line ≡ None
@@ -64,12 +61,7 @@ unended line h =
 
 -- an interpolation
 pub free_itself : (line : List ℕ) → IsFreeLine line → length line ≤ LINE → GivesItself line
-free_itself line h short =
-    let free : IsFree line = λ k l.
-    let b = get_or line (k + 1) 0 in
-    call_part (is_backslash (get_or line k 0)) (b == 34) (b == 35) (b == 125) (may_call b) (h k l)
-    in
-    gives_itself line (verbatim_free line free) short
+free_itself line h short = grind (arith, call_part, gives_itself, verbatim_free)
 
 -- ---- vectors
 

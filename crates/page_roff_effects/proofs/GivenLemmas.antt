@@ -1,5 +1,5 @@
 -- What was given before stays in front: helpers of proofs.
-use Rattle.std.proofs.Common.{◌≡◌, ℕ, zero, suc, Bool, true, false, not, ◌&&◌, List, Option, Some, None, refl, ap, ◌∙◌, append_assoc}
+use Rattle.std.proofs.Common.{arith, ◌≡◌, ℕ, zero, suc, Bool, true, false, not, ◌&&◌, List, Option, Some, None, refl, ap, ◌∙◌, append_assoc}
 use Rattle.page_roff_heads.specs.declared.conditions.Condition.{Condition}
 use Rattle.page_roff_syntax.specs.Regions.{Opened}
 use Rattle.page_roff_blocks.specs.Parts.{loop_text}
@@ -52,8 +52,7 @@ module _ (units : List ℕ → ℕ) (g : List Given) where
       → charge_by (effects units) gave_up left (in_front g s) ≡ in_front g (charge_by (effects units) gave_up left s)
   unfolding charge_by effects
   charge_front_by true left s = refl
-  charge_front_by false zero s =
-      ap (λ (r : State). record { left = 0; gave_up = true; taken = s.taken; rest = r }) (after_front g s.rest (budget_outcome s.rest.memory))
+  charge_front_by false zero s = grind (arith, after_front)
   charge_front_by false (suc left) s = refl
 
   charge_front : (s : Budgeted State) → charge (effects units) (in_front g s) ≡ in_front g (charge (effects units) s)
@@ -73,9 +72,7 @@ module _ (units : List ℕ → ℕ) (g : List Given) where
   test_front : (kind : Kind) (condition : Condition (List ℕ)) (s : Budgeted State)
       → test (effects units) kind condition (in_front g s) ≡ over_pair (in_front g) (test (effects units) kind condition s)
   unfolding test effects with_rest
-  test_front kind condition s =
-      ap (λ (v : Bool × State). (v.0, record { left = s.left; gave_up = s.gave_up; taken = s.taken; rest = v.1 }))
-      (tested_front g s.rest (answer_of (setting_of units kind) condition s.rest.memory))
+  test_front kind condition s = grind (arith, tested_front)
 
   unopened_front : (kind : Kind) (gave_up : Bool) (s : Budgeted State)
       → unopened_by (effects units) kind gave_up (in_front g s) ≡ in_front g (unopened_by (effects units) kind gave_up s)
@@ -87,22 +84,12 @@ module _ (units : List ℕ → ℕ) (g : List Given) where
   read_front : (kind : Kind) (o : Opened) (line : List ℕ) (s : Budgeted State)
       → read_line (effects units) kind o line (in_front g s) ≡ in_front g (read_line (effects units) kind o line s)
   unfolding read_line effects
-  read_front kind o line s =
-      let t = begin_line (effects units) kind s in
-      let f : Budgeted State → Budgeted State =
-      λ t. with_rest (effects units) t (after t.rest (line_outcome (setting_of units kind) o (o.is_run && not t.gave_up) line t.rest.memory)) in
-      ap f (begin_front kind s)
-      ∙ with_rest_front t _ _ (after_front g t.rest (line_outcome (setting_of units kind) o (o.is_run && not t.gave_up) line t.rest.memory))
+  read_front kind o line s = grind (arith, begin_front, with_rest_front, after_front)
 
   end_front : (kind : Kind) (o : Opened) (line : List ℕ) (s : Budgeted State)
       → end_line (effects units) kind o line (in_front g s) ≡ in_front g (end_line (effects units) kind o line s)
   unfolding end_line effects
-  end_front kind o line s =
-      let t = begin_line (effects units) kind s in
-      let f : Budgeted State → Budgeted State =
-      λ t. with_rest (effects units) t (after t.rest (end_outcome o (o.is_run && not t.gave_up) t.rest.memory)) in
-      ap f (begin_front kind s)
-      ∙ with_rest_front t _ _ (after_front g t.rest (end_outcome o (o.is_run && not t.gave_up) t.rest.memory))
+  end_front kind o line s = grind (arith, begin_front, with_rest_front, after_front)
 
   collect_front : (text : Option (List ℕ)) (s : Budgeted State)
       → collect_some (effects units) text (in_front g s) ≡ in_front g (collect_some (effects units) text s)
@@ -113,31 +100,23 @@ module _ (units : List ℕ → ℕ) (g : List Given) where
   closes_front : (may_run : Bool) (s : Budgeted State)
       → (language (effects units)).closes may_run (in_front g s) ≡ over_done (in_front g) ((language (effects units)).closes may_run s)
   unfolding language effects
-  closes_front may_run s =
-      let o = close_outcome (not s.gave_up) may_run s.rest.memory in
-      ap (closed_with (effects units) (in_front g s)) (done_after_front g s.rest o) ∙ closed_with_front s (done_after s.rest o)
+  closes_front may_run s = grind (arith, done_after_front, closed_with_front)
 
   turn_front_by : (gave_up : Bool) (kind : Kind) (condition : List ℕ) (s : Budgeted State)
       → turn_by (effects units) gave_up kind condition (in_front g s) ≡ over_pair (in_front g) (turn_by (effects units) gave_up kind condition s)
   unfolding turn_by effects with_rest
   turn_front_by true kind condition s = refl
-  turn_front_by false kind condition s =
-      ap (λ (v : Bool × State). (v.0, record { left = s.left; gave_up = s.gave_up; taken = s.taken; rest = v.1 }))
-      (tested_front g s.rest (turn_answer (setting_of units kind) condition s.rest.memory))
+  turn_front_by false kind condition s = grind (arith, tested_front)
 
   turn_front : (kind : Kind) (condition : List ℕ) (s : Budgeted State)
       → turn (effects units) kind condition (in_front g s) ≡ over_pair (in_front g) (turn (effects units) kind condition s)
   unfolding turn
-  turn_front kind condition s =
-      let t = charge (effects units) s in
-      ap (λ (u : Budgeted State). turn_by (effects units) u.gave_up kind condition u) (charge_front s) ∙ turn_front_by t.gave_up kind condition t
+  turn_front kind condition s = grind (arith, charge_front, turn_front_by)
 
   leaf_front : (may_call : Bool) (kind : Kind) (text : List ℕ) (s : Budgeted State)
       → (language (effects units)).leaf may_call kind text (in_front g s) ≡ over_done (in_front g) ((language (effects units)).leaf may_call kind text s)
   unfolding language effects
-  leaf_front may_call kind text s =
-      let o = leaf_outcome (setting_of units kind) may_call text s.rest.memory in
-      ap (done_with (effects units) (in_front g s)) (done_after_front g s.rest o) ∙ done_with_front s (done_after s.rest o)
+  leaf_front may_call kind text s = grind (arith, done_after_front, done_with_front)
 
   parts_front : (kind : Kind) → IsFrontOfParts (in_front g) (meaning (effects units) kind)
   unfolding meaning effects

@@ -34,19 +34,13 @@ text_form [] w b = cc
 text_form (x ∷ xs) w b = rw b refl
 
 pub counted_none : (m : Memory) → counted 0 m ≡ m
-counted_none m = ap (λ n. let k : Memory = record { definitions = m.definitions; body = m.body; number = m.number; expansions = n } in k) (omega arith)
+counted_none m = grind arith
 
 -- a line without a control character at its front and without a backslash is taken as it is written
 pub plain_taken : (setting : TextSetting) (may_call : Bool) (line : List ℕ) (m : Memory) → begins_control line ≡ false → prefix_len is_plain line ≡ length line
     → length line ≤ LINE → leaf_outcome setting may_call line m ≡ gives_line (plain_form line) line 0 m
 unfolding leaf_outcome
-plain_taken setting may_call line m b p h =
-    elim (cases_Bool (has_word line)) [
-      | inl w ↦
-          rw (w, no_comment line p, text_form line w b, plain_expanded (surroundings false setting m) m.number line (no_backslash line p) h)
-          (ap (λ m. gives_line forms.Text line 0 m) (counted_none m))
-      | inr w ↦ rw w refl
-    ]
+plain_taken setting may_call line m b p h = grind (arith, cases_Bool, no_comment, text_form, plain_expanded, no_backslash, counted_none)
 
 -- and so is a text without a backslash, in copy mode or not
 pub plain_laid : (copy : Bool) (text : List ℕ) (a : Acting) → prefix_len is_plain text ≡ length text → length text ≤ LINE
