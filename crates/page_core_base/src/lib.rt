@@ -59,5 +59,5 @@ pub use quotes::{after_byte, unpaired_front};
 pub use room::append;
 pub use row_outs::RowOut;
 pub use row_sinks::RowSink;
-pub use texts::is_line;
+pub use texts::{has_no_control, is_line};
 pub use word_parts::first_part_len;

@@ -12,8 +12,8 @@ pub fn is_line(text: &[u8]) -> bool
     text.len() <= LINE && has_no_control(text) && std::str::from_utf8(text).is_ok()
 }
 
-// Whether there is no control character but the tab in a text. Those above ASCII are the byte 0xC2 and one below 0xA0.
-fn has_no_control(text: &[u8]) -> bool
+/// Whether there is no control character but the tab in a text. Those above ASCII are the byte 0xC2 and one below 0xA0.
+pub fn has_no_control(text: &[u8]) -> bool
     ensures { result ≡ has_no_control 0 text.now }
 {
     let mut before = 0u8;

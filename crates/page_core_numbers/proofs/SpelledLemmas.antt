@@ -1,10 +1,11 @@
 -- The columns of the spelling of a character above ASCII.
-use Rattle.std.proofs.Common.{◌≡◌, ℕ, ◌<◌, ◌≤◌, ◌==◌, ◌&&◌, nat_le, Bool, true, false, inl, inr, List, [], ◌∷◌, length, codes, refl, sym, ap, ◌∙◌, arith}
+use Rattle.std.proofs.Common.{◌≡◌, ◌≢◌, ℕ, ◌<◌, ◌≤◌, ◌==◌, ◌&&◌, ◌||◌, nat_le, nat_lt, Bool, true, false, inl, inr, List, [], ◌∷◌, length, codes, refl, sym, ap, ◌∙◌, arith}
 use Rattle.std.specs.List.{list_all}
 use Rattle.std.proofs.lemmas.Bool.{cases_Bool, and_parts}
 use Rattle.std.proofs.lemmas.Bool.Decides.{nat_tests}
 use Rattle.std.proofs.lemmas.List.Sums.{sum_by-append}
-use Rattle.page_core_tables.specs.Glyphs.{Entry, table, first_spelling, spelling_of, by_spelling, char_columns}
+use Rattle.page_core_base.specs.declared.page_settings.Output.{Output}
+use Rattle.page_core_tables.specs.Glyphs.{Entry, table, first_spelling, spelling_of, by_spelling, char_columns, char_printed, is_control}
 use Rattle.page_core_tables.proofs.PrintedLemmas.{char_columns-printable, by_spelling_of-short}
 use Rattle.page_core_tables.proofs.Tables.{spelling_of-above}
 use Rattle.page_core_numbers.specs.Columns.{characters_columns}
@@ -27,6 +28,19 @@ printable-columns (c ∷ cs) h =
 
 unknown-columns : characters_columns (codes "<?>") ≡ 3
 unknown-columns = sym (printable-columns (codes "<?>") refl)
+
+-- a control character but the tab has those of `<?>`
+pub control-columns : (output : Output) (c : ℕ) → c ≢ 9 → c < 160 → (32 ≤ c → 126 < c) → 3 ≡ characters_columns (char_printed output c).characters
+control-columns output c tab low shown =
+    let other : (c == 9 || c == 160) ≡ false = grind (arith, nat_tests, tab, low) in
+    let control : is_control c ≡ true = elim (cases_Bool (nat_lt c 32)) [
+      | inl below ↦ rw below refl
+      | inr above ↦
+          let from : 32 ≤ c = grind (arith, nat_tests, above) in
+          let past = shown from in
+          grind (arith, nat_tests, above, past, low)
+    ] in
+    rw (other, control) (sym unknown-columns)
 
 -- the characters that have a spelling, and what they are spelled with
 abbrev is_known : Entry → Bool

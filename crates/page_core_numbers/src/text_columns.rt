@@ -169,7 +169,9 @@ fn character_columns(output: Output, c: char) -> u32
 {
     match c {
         '\t' | '\u{A0}' => 1,
-        '\u{80}'.. if prints_ascii(output) => spelled_columns(c),
+        ' '..='~' => 1,
+        '\0'..'\u{A0}' => UNSPELLED,
+        _ if prints_ascii(output) => spelled_columns(c),
         _ => char_columns(c),
     }
 }

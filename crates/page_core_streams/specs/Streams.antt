@@ -4,6 +4,7 @@ use Rattle.std.specs.Prelude.{ℕ, List, ◌∷◌, ◌++◌, encode_utf8, [], i
 use Rattle.page_core_base.specs.Bytes.{ascii}
 use Rattle.page_core_base.specs.Messages.{Message, level_of, level_name, text_of, Rose}
 use Rattle.page_core_base.specs.Rows.{is_blank, LaidRow, trimmed}
+use Rattle.page_core_base.specs.Texts.{has_no_control}
 use Rattle.page_core_base.specs.declared.cells.Cell.{Cell}
 use Rattle.page_core_base.specs.declared.cells.Font.{Font}
 use Rattle.page_core_base.specs.declared.cells.Font.TheVariants.{R, B, I, BI}
@@ -46,8 +47,12 @@ parts_bytes file line column level text detail =
     codes "mandoc: " ++ (file ++ (ascii ":" ∷ (line ++ (ascii ":" ∷ (column ++ (ascii ":" ∷ ascii " " ∷ (level ++ (ascii ":" ∷ ascii " " ∷
     (text ++ (detail_bytes detail ++ codes "\n"))))))))))
 
+-- a detail with a control character is not shown; a tab may be in it
+abbrev pub shown_detail : List ℕ → List ℕ
+shown_detail detail = if has_no_control 0 detail then detail else []
+
 abbrev pub message_bytes : List ℕ → Message → List ℕ
-message_bytes file m = parts_bytes file (decimal m.line) (decimal m.column) (level_name (level_of m.kind)) (text_of m.kind) m.detail
+message_bytes file m = parts_bytes file (decimal m.line) (decimal m.column) (level_name (level_of m.kind)) (text_of m.kind) (shown_detail m.detail)
 
 -- ---- A sink that is seen as a list, where the list is known.
 

@@ -3,12 +3,12 @@
 ghost use Rattle.std.specs.Prelude.{◌≡◌, MatchResult, IfErr};
 ghost use Rattle.page_core_base.specs.laws.Views.{message_of};
 ghost use Rattle.page_core_streams.specs.laws.Views.{FailsBy, Writes, shown_bytes};
-ghost use Rattle.page_core_streams.specs.Streams.{ErrsBy, Grows, GrowsInto, message_bytes};
+ghost use Rattle.page_core_streams.specs.Streams.{ErrsBy, Grows, GrowsInto, message_bytes, shown_detail};
 
 use crate::targets::Target;
 use crate::writing::put_all;
 use itoa::Buffer;
-use page_core_base::{Fault, Note};
+use page_core_base::{Fault, Note, has_no_control};
 
 /// Writes a message as `mandoc: FILE:LINE:COLUMN: LEVEL: TEXT`, then `: DETAIL` where there is one, and a line feed. Its fault is
 /// [`Fault::WriteNotes`], where the writer failed; then a front of these bytes was written.
@@ -44,8 +44,15 @@ pub(crate) fn put_note<W: Target>(out: &mut W, file: &str, note: &Note) -> bool
         place,
         note.kind.level().name().as_bytes(),
         note.kind.text().as_bytes(),
-        note.detail.as_str().as_bytes(),
+        shown_detail(note.detail.as_str().as_bytes()),
     )
+}
+
+// A detail as it is shown: with a control character but the tab it is not.
+fn shown_detail(detail: &[u8]) -> &[u8]
+    ensures { result.now ≡ shown_detail detail.now }
+{
+    if has_no_control(detail) { detail } else { b"" }
 }
 
 // A message's place as it is shown.

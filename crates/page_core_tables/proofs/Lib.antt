@@ -1,3 +1,4 @@
 pub mod Search
 pub mod Tables
 pub mod PrintedLemmas
+pub mod ControlLemmas

@@ -228,10 +228,15 @@ abbrev pub by_spelling : List ℕ → ℕ → Printing
 by_spelling [] c = unknown_text (encode_utf8 c)
 by_spelling (b ∷ bs) c = known (b ∷ bs)
 
--- a character; a tab, and a blank that no row breaks at (U+00A0), are a blank
+-- a control character: one below the blank, or from U+007F to U+009F
+abbrev pub is_control : ℕ → Bool
+is_control c = nat_lt c 0x20 || (nat_le 0x7F c && nat_lt c 0xA0)
+
+-- a character; a tab, and a blank that no row breaks at (U+00A0), are a blank. No other control character is printed, nor named in a message
 abbrev pub char_printed : Output → ℕ → Printing
 char_printed output c =
     if c == 0x09 || c == 0xA0 then known (codes " ")
+    else if is_control c then unknown_text []
     else if nat_lt c 0x80 then known (c ∷ [])
     else if prints_ascii output then by_spelling (spelling_of c) c
     else known (c ∷ [])

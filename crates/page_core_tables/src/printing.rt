@@ -16,7 +16,7 @@ pub enum Printed<'a> {
     Spelling(&'static str),
     /// `<?>`, since this character has no spelling in ASCII.
     NoSpelling(char),
-    /// `<?>`, since no glyph has this name.
+    /// `<?>`, since no glyph has this name; a control character has an empty one.
     NoGlyph(&'a [u8]),
 }
 
@@ -40,7 +40,8 @@ fn by_spelling<'a>(spelling: &'static str, c: char) -> Printed<'a>
     Printed::Spelling(spelling)
 }
 
-/// What a character prints. A tab, and a blank that no row breaks at (U+00A0), print a blank.
+/// What a character prints. A tab, and a blank that no row breaks at (U+00A0), print a blank; of another control character
+/// there is `<?>`, with no name.
 pub fn printed_char(output: Output, c: char) -> Printed<'static>
     ensures value { printed_view result ≡ char_printed output c }
     ensures short { length (printed_view result).characters ≤ 8 }
@@ -48,7 +49,8 @@ pub fn printed_char(output: Output, c: char) -> Printed<'static>
     match c {
         ' '..='~' => Printed::Char(c),
         '\t' | '\u{A0}' => Printed::Char(' '),
-        '\u{80}'.. if prints_ascii(output) => by_spelling(spelling(c), c),
+        '\0'..'\u{A0}' => Printed::NoGlyph(b""),
+        _ if prints_ascii(output) => by_spelling(spelling(c), c),
         _ => Printed::Char(c),
     }
 }

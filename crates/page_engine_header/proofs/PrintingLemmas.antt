@@ -17,7 +17,7 @@ use Rattle.page_core_base.specs.declared.places.Place.{Place}
 use Rattle.page_core_escapes.specs.Tokens.{TextToken, tokens_of, plain}
 use Rattle.page_core_numbers.specs.Columns.{characters_columns}
 use Rattle.page_core_tables.proofs.PrintedLemmas.{char_columns-printable}
-use Rattle.page_core_tables.specs.Glyphs.{Printing, char_columns, char_printed}
+use Rattle.page_core_tables.specs.Glyphs.{Printing, char_columns, char_printed, is_control}
 use Rattle.page_scopes_words.specs.declared.fonts.Fonts.{Fonts}
 use Rattle.page_scopes_words.specs.Fonts.{roman_fonts, token_fonts}
 use Rattle.page_scopes_words.specs.Words.{plain_printed, token_printed}
@@ -71,8 +71,9 @@ printable_byte : (output : Output) (c : ℕ) → is_printable c ≡ true → (ch
 printable_byte output c is =
     let tab : (c == 9) ≡ false = grind (arith, nat_tests, is) in
     let blank : (c == 160) ≡ false = grind (arith, nat_tests, is) in
+    let control : is_control c ≡ false = grind (arith, nat_tests, is) in
     let ascii : nat_lt c 128 ≡ true = grind (arith, nat_tests, is) in
-    rw (tab, blank, ascii) refl
+    rw (tab, blank, control, ascii) refl
 
 printable_bytes : (output : Output) (text : List ℕ) → is_printable_ascii text ≡ true → plain_printed output text ≡ text
 printable_bytes output [] all = refl

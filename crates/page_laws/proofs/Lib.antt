@@ -6,3 +6,7 @@ mod FeedLemmas
 pub mod PlaceLemmas
 pub mod SetPlaceLemmas
 pub mod FlagLemmas
+pub mod ShownLemmas
+pub mod ShownPieces
+pub mod ShownPages
+pub mod ShownMessages

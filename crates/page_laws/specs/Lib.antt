@@ -3,3 +3,4 @@ pub mod Operations
 pub mod Fronts
 pub mod Fed
 pub mod Places
+pub mod Shown
