@@ -54,7 +54,8 @@ label_name label = (label_row label).name
 
 -- two scopes have one closer where the name of their openers is the same
 abbrev pub is_explicit : Explicit → Label → Bool
-is_explicit explicit label = bytes_eq (label_name (labels.Explicit explicit)) (label_name label)
+is_explicit explicit (labels.Explicit other) = bytes_eq (label_name (labels.Explicit explicit)) (label_name (labels.Explicit other))
+is_explicit explicit _ = false
 
 abbrev pub is_margin : Label → Bool
 is_margin label = is_explicit RelativeMargin label

@@ -129,6 +129,21 @@ fn has_heads(kind: ListKind) -> bool
     )
 }
 
+impl Explicit {
+    // The name of the macro that opens the scope.
+    #[inline(always)]
+    fn name(self) -> &'static str
+        ensures { result.now ≡ labels.label_name (Label.Explicit self) }
+    {
+        match self {
+            Explicit::RelativeMargin => "RS",
+            Explicit::Target(link) => link.name(),
+            Explicit::Syntax => "SY",
+            Explicit::Block(block) => block.name(),
+        }
+    }
+}
+
 impl Label {
     /// What is known of the scope by its label alone.
     #[inline(always)]
@@ -212,11 +227,15 @@ impl Label {
         }
     }
 
-    /// Whether the scope is that with a closer of its own.
+    /// Whether the scope is that with a closer of its own; lists of all types have one closer.
+    #[inline(always)]
     pub fn is_explicit(self, explicit: Explicit) -> bool
         ensures { result ≡ labels.is_explicit explicit self }
     {
-        Label::Explicit(explicit).name() == self.name()
+        match self {
+            Label::Explicit(open) => explicit.name() == open.name(),
+            _ => false,
+        }
     }
 
     /// Whether the scope is a relative margin.

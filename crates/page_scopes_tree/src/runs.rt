@@ -33,6 +33,7 @@ pub(crate) enum Run {
 
 impl Run {
     // Whether a scope is one of them.
+    #[inline(always)]
     fn takes(self, label: Label) -> bool
         ensures { result ≡ run_takes self label }
     {
