@@ -113,6 +113,8 @@ impl<W: Write> Target for Waiting<W> {
 
     ghost failures = { λ _. 0 };
 
+    ghost is_out = { λ s. s.bytes.items ≡ [] };
+
     fn put(&mut self, bytes: &[u8]) -> bool {
         if bytes.len() > self.bytes.remaining_capacity() && !self.send() {
             return false;

@@ -1,6 +1,6 @@
 //! Sinks that take messages.
 
-ghost use Rattle.std.specs.Prelude.{◌≡◌, ℕ, false, List, [], ◌∷◌};
+ghost use Rattle.std.specs.Prelude.{◌≡◌, ℕ, false, List, [], ◌∷◌, OnOk};
 ghost use Rattle.page_core_base.specs.laws.Views.{IsSink, Gives, FailsAs, message_of};
 ghost use Rattle.page_core_base.specs.Messages.{Message};
 
@@ -23,6 +23,9 @@ pub trait NoteSink {
 
     ghost loans: { Self → Loans };
 
+    // Nothing waits in a buffer.
+    ghost is_out: { Self → Type 0 };
+
     /// Takes a message. Its fault is [`Fault::WriteNotes`].
     fn note(&mut self, note: &Note) -> Result<(), Fault>
         ensures gives { Gives result gave within self.old (message_of note.now ∷ []) self.new }
@@ -42,9 +45,7 @@ pub trait NoteSink {
         ensures gives { Gives result gave within self.old [] self.new }
         ensures fault { FailsAs Fault.WriteNotes result (failed self.old) (failed self.new) }
         ensures same { loans self.new ≡ loans self.old }
-    {
-        Ok(())
-    }
+        ensures out { OnOk result (is_out self.new) };
 
     ghost laws: { IsSink gave within };
 

@@ -1,6 +1,6 @@
 //! Sinks that take finished rows.
 
-ghost use Rattle.std.specs.Prelude.{◌≡◌, ◌≤◌, ℕ, List, [], ◌∷◌, length, true, vec_capacity};
+ghost use Rattle.std.specs.Prelude.{◌≡◌, ◌≤◌, ℕ, List, [], ◌∷◌, length, true, vec_capacity, OnOk};
 ghost use Rattle.page_core_base.specs.laws.Views.{IsSink, Gives, FailsAs, AreAscii, cells_in};
 ghost use Rattle.page_core_base.specs.Rows.{LaidRow, is_blank_row, row_of};
 
@@ -22,6 +22,9 @@ pub trait RowSink {
     ghost Loans: { Type 0 };
 
     ghost loans: { Self → Loans };
+
+    // Nothing waits in a buffer.
+    ghost is_out: { Self → Type 0 };
 
     /// Takes a row: its margin in columns, and its cells. Its fault is [`Fault::WriteText`].
     fn row(&mut self, margin: u32, cells: &[Cell]) -> Result<(), Fault>
@@ -64,9 +67,7 @@ pub trait RowSink {
         ensures gives { Gives result gave within self.old [] self.new }
         ensures fault { FailsAs Fault.WriteText result (failed self.old) (failed self.new) }
         ensures same { loans self.new ≡ loans self.old }
-    {
-        Ok(())
-    }
+        ensures out { OnOk result (is_out self.new) };
 
     ghost laws: { IsSink gave within };
 

@@ -81,6 +81,8 @@ impl RowSink for KeptRows {
 
     ghost loans = { λ _. tt };
 
+    ghost is_out = { λ _. Unit {0} };
+
     ghost laws = { adds-sink (λ s. Some s.rows.items) (λ row. row ∷ []) };
 
     ghost whole = { adds-whole (λ s. Some s.rows.items) (λ row. row ∷ []) };
@@ -93,6 +95,10 @@ impl RowSink for KeptRows {
         }
         self.failures = self.failures.saturating_add(1);
         Err(Fault::WriteText)
+    }
+
+    fn put_out(&mut self) -> Result<(), Fault> {
+        Ok(())
     }
 }
 
@@ -127,6 +133,8 @@ impl NoteSink for KeptNotes {
 
     ghost loans = { λ _. tt };
 
+    ghost is_out = { λ _. Unit {0} };
+
     ghost laws = { adds-sink (λ s. Some (map message_of s.notes.items)) (λ note. note ∷ []) };
 
     ghost whole = { adds-whole (λ s. Some (map message_of s.notes.items)) (λ note. note ∷ []) };
@@ -137,5 +145,9 @@ impl NoteSink for KeptNotes {
         }
         self.failures = self.failures.saturating_add(1);
         Err(Fault::WriteNotes)
+    }
+
+    fn put_out(&mut self) -> Result<(), Fault> {
+        Ok(())
     }
 }

@@ -1,6 +1,6 @@
 //! What bytes are written to: any writer, and one whose failures are counted.
 
-ghost use Rattle.std.specs.Prelude.{◌≡◌, ℕ, Bool, List, [], Option};
+ghost use Rattle.std.specs.Prelude.{◌≡◌, ℕ, Bool, true, List, [], Option};
 ghost use Rattle.page_core_streams.specs.laws.Views.{Writes, FailsBy};
 
 use crate::writing::write_bytes;
@@ -16,6 +16,9 @@ pub trait Target {
 
     ghost failures: { Self → ℕ };
 
+    // Nothing waits in a buffer, as far as that is known.
+    ghost is_out: { Self → Type 0 };
+
     /// Writes all bytes, and says whether that succeeded; else a front of them was written.
     fn put(&mut self, bytes: &[u8]) -> bool
         ensures writes { Writes result (contents self.old) (contents self.new) bytes.now }
@@ -24,17 +27,20 @@ pub trait Target {
     /// Puts out what waits in a buffer, and says whether that succeeded.
     fn put_out(&mut self) -> bool
         ensures writes { Writes result (contents self.old) (contents self.new) [] }
-        ensures fails { FailsBy counts result (failures self.old) (failures self.new) };
+        ensures fails { FailsBy counts result (failures self.old) (failures self.new) }
+        ensures out { result ≡ true → is_out self.new };
 }
 
 impl<W: Write> Target for W {
-    ghost use Rattle.std.specs.Prelude.{false};
+    ghost use Rattle.std.specs.Prelude.{false, ⊤};
 
     ghost contents = { λ s. W.contents s };
 
     ghost counts = { false };
 
     ghost failures = { λ _. 0 };
+
+    ghost is_out = { λ _. ⊤ };
 
     fn put(&mut self, bytes: &[u8]) -> bool {
         write_bytes(self, bytes)
@@ -67,13 +73,15 @@ impl<'a, W: Write> CountedWriter<'a, W> {
 }
 
 impl<W: Write> Target for CountedWriter<'_, W> {
-    ghost use Rattle.std.specs.Prelude.{true};
+    ghost use Rattle.std.specs.Prelude.{true, ⊤};
 
     ghost contents = { λ s. W.contents s.writer.now };
 
     ghost counts = { true };
 
     ghost failures = { λ s. s.failures };
+
+    ghost is_out = { λ _. ⊤ };
 
     fn put(&mut self, bytes: &[u8]) -> bool {
         if write_bytes(self.writer, bytes) {
@@ -97,13 +105,15 @@ impl<W: Write> Target for CountedWriter<'_, W> {
 pub struct Nowhere;
 
 impl Target for Nowhere {
-    ghost use Rattle.std.specs.Prelude.{None, true};
+    ghost use Rattle.std.specs.Prelude.{None, true, ⊤};
 
     ghost contents = { λ _. None };
 
     ghost counts = { true };
 
     ghost failures = { λ _. 0 };
+
+    ghost is_out = { λ _. ⊤ };
 
     fn put(&mut self, bytes: &[u8]) -> bool {
         let _ = bytes;

@@ -44,6 +44,8 @@ impl<W: Target> NoteSink for TextNotes<'_, '_, W> {
 
     ghost loans = { λ s. s.out.ghost_name };
 
+    ghost is_out = { λ s. W.is_out s.out.now };
+
     ghost laws = { adds-by-sink (λ s. W.contents s.out.now) (λ s. s.file.now) message_bytes };
 
     ghost whole = { adds-by-whole (λ s. W.contents s.out.now) (λ s. s.file.now) message_bytes };

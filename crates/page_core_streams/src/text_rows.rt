@@ -159,6 +159,8 @@ impl<W: Target> RowSink for TextRows<'_, W> {
 
     ghost loans = { λ s. s.out.ghost_name };
 
+    ghost is_out = { λ s. W.is_out s.out.now };
+
     ghost laws = { adds-sink (λ s. W.contents s.out.now) row_bytes };
 
     ghost whole = { adds-whole (λ s. W.contents s.out.now) row_bytes };

@@ -46,6 +46,8 @@ impl<N: NoteSink> NoteSink for LevelFilter<'_, N> {
 
     ghost loans = { λ s. (s.notes.ghost_name, N.loans s.notes.now) };
 
+    ghost is_out = { λ s. N.is_out s.notes.now };
+
     ghost laws = { filter-sink N.gave N.within N.laws (λ s. s.notes.now) (λ s. s.least) (λ s. s.worst) };
 
     ghost whole = { filter-whole N.gave N.within N.whole (λ s. s.notes.now) (λ s. s.least) (λ s. s.worst) };
@@ -65,5 +67,10 @@ impl<N: NoteSink> NoteSink for LevelFilter<'_, N> {
     #[tactic(auto, unfolding(crate::specs::Page::reported, crate::specs::Page::worst_of))]
     fn takes(&self, kind: NoteKind) -> bool {
         is_reported(self.least, kind.level())
+    }
+
+    #[tactic(auto, unfolding(crate::specs::Page::reported, crate::specs::Page::worst_of))]
+    fn put_out(&mut self) -> Result<(), Fault> {
+        self.notes.put_out()
     }
 }

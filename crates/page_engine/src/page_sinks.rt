@@ -37,6 +37,8 @@ impl<R: RowSink, N: NoteSink> NoteSink for PageSink<'_, '_, '_, R, N> {
       N.loans s.notes.notes.now,
     ) };
 
+    ghost is_out = { λ _. Unit {0} };
+
     ghost laws = { message-sink ⟦<Shown<'static, R> as RowSink>⟧.gave ⟦<Shown<'static, R> as RowSink>⟧.within
         ⟦<Shown<'static, R> as RowSink>⟧.failed ⟦<LevelFilter<'static, N> as NoteSink>⟧.gave
         ⟦<LevelFilter<'static, N> as NoteSink>⟧.within ⟦<LevelFilter<'static, N> as NoteSink>⟧.failed
@@ -54,6 +56,11 @@ impl<R: RowSink, N: NoteSink> NoteSink for PageSink<'_, '_, '_, R, N> {
     #[tactic(auto, unfolding(page_fill::specs::machine::ByPiece::laid_items))]
     fn note(&mut self, note: &Note) -> Result<(), Fault> {
         self.notes.note(note)
+    }
+
+    // It has no buffer: a run has those of its sinks put out.
+    fn put_out(&mut self) -> Result<(), Fault> {
+        Ok(())
     }
 }
 

@@ -35,6 +35,8 @@ impl<R: RowSink> RowSink for Shown<'_, R> {
 
     ghost loans = { λ s. (s.rows.ghost_name, R.loans s.rows.now) };
 
+    ghost is_out = { λ s. R.is_out s.rows.now };
+
     ghost laws = { shown-sink R.gave R.within R.laws (λ s. s.rows.now) (λ s. s.is_silent) };
 
     ghost whole = { shown-whole R.gave R.within R.whole (λ s. s.rows.now) (λ s. s.is_silent) };
@@ -68,5 +70,9 @@ impl<R: RowSink> RowSink for Shown<'_, R> {
             return Ok(());
         }
         self.rows.ascii_row(margin, bytes, fonts, is_blank, places)
+    }
+
+    fn put_out(&mut self) -> Result<(), Fault> {
+        self.rows.put_out()
     }
 }

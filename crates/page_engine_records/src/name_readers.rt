@@ -208,6 +208,8 @@ impl NoteSink for NameReader {
 
     ghost loans = { λ _. tt };
 
+    ghost is_out = { λ _. Unit {0} };
+
     ghost laws = { reader-notes };
 
     ghost whole = { λ s t xs same. same };
@@ -218,6 +220,10 @@ impl NoteSink for NameReader {
 
     fn takes(&self, _kind: NoteKind) -> bool {
         false
+    }
+
+    fn put_out(&mut self) -> Result<(), Fault> {
+        Ok(())
     }
 }
 

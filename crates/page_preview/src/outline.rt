@@ -93,6 +93,8 @@ impl NoteSink for Outline {
 
     ghost loans = { λ _. tt };
 
+    ghost is_out = { λ _. Unit {0} };
+
     ghost laws = { record {
       none = λ _. tt;
       more = λ _ _ _ _ _ _ _. tt;
@@ -103,6 +105,10 @@ impl NoteSink for Outline {
     ghost whole = { λ _ _ _ _. tt };
 
     fn note(&mut self, _note: &Note) -> Result<(), Fault> {
+        Ok(())
+    }
+
+    fn put_out(&mut self) -> Result<(), Fault> {
         Ok(())
     }
 }

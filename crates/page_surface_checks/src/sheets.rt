@@ -80,6 +80,8 @@ impl NoteSink for Sheet {
 
     ghost loans = { λ _. tt };
 
+    ghost is_out = { λ _. Unit {0} };
+
     ghost laws = { record {
       none = λ _. tt;
       more = λ _ _ _ _ _ _ _. tt;
@@ -91,6 +93,10 @@ impl NoteSink for Sheet {
 
     fn note(&mut self, note: &Note) -> Result<(), Fault> {
         let _ = self.kept.notes.note(note);
+        Ok(())
+    }
+
+    fn put_out(&mut self) -> Result<(), Fault> {
         Ok(())
     }
 }

@@ -93,6 +93,8 @@ impl RowSink for Rows {
 
     ghost loans = { λ _. tt };
 
+    ghost is_out = { λ _. Unit {0} };
+
     ghost laws = { record {
       none = λ _. tt;
       more = λ _ _ _ _ _ _ _. tt;
@@ -111,6 +113,10 @@ impl RowSink for Rows {
         put_row(&mut self.text, margin, cells);
         Ok(())
     }
+
+    fn put_out(&mut self) -> Result<(), Fault> {
+        Ok(())
+    }
 }
 
 impl NoteSink for Notes {
@@ -123,6 +129,8 @@ impl NoteSink for Notes {
     ghost Loans = { Unit {0} };
 
     ghost loans = { λ _. tt };
+
+    ghost is_out = { λ _. Unit {0} };
 
     ghost laws = { record {
       none = λ _. tt;
@@ -140,6 +148,10 @@ impl NoteSink for Notes {
             return Err(Fault::WriteNotes);
         }
         let _ = write_note(&mut self.text, "x.1", note);
+        Ok(())
+    }
+
+    fn put_out(&mut self) -> Result<(), Fault> {
         Ok(())
     }
 }

@@ -44,6 +44,8 @@ impl<N: Notation> NoteSink for ShownBy<N> {
 
     ghost loans = { λ _. tt };
 
+    ghost is_out = { λ _. Unit {0} };
+
     ghost laws = { record {
       none = λ _. tt;
       more = λ _ _ _ _ _ _ _. tt;
@@ -55,6 +57,10 @@ impl<N: Notation> NoteSink for ShownBy<N> {
 
     fn note(&mut self, note: &Note) -> Result<(), Fault> {
         self.notation.show_message(note);
+        Ok(())
+    }
+
+    fn put_out(&mut self) -> Result<(), Fault> {
         Ok(())
     }
 }

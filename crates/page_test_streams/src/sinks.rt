@@ -51,6 +51,8 @@ impl RowSink for CountingSink {
 
     ghost loans = { λ _. tt };
 
+    ghost is_out = { λ _. Unit {0} };
+
     ghost laws = { record {
       none = λ _. tt;
       more = λ _ _ _ _ _ _ _. tt;
@@ -68,6 +70,10 @@ impl RowSink for CountingSink {
             Err(Fault::WriteText)
         }
     }
+
+    fn put_out(&mut self) -> Result<(), Fault> {
+        Ok(())
+    }
 }
 
 impl NoteSink for CountingSink {
@@ -80,6 +86,8 @@ impl NoteSink for CountingSink {
     ghost Loans = { Unit {0} };
 
     ghost loans = { λ _. tt };
+
+    ghost is_out = { λ _. Unit {0} };
 
     ghost laws = { record {
       none = λ _. tt;
@@ -101,5 +109,9 @@ impl NoteSink for CountingSink {
 
     fn takes(&self, kind: NoteKind) -> bool {
         self.passed_over != Some(kind)
+    }
+
+    fn put_out(&mut self) -> Result<(), Fault> {
+        Ok(())
     }
 }
