@@ -129,12 +129,12 @@ whole_index (Some xs) (Some ys) rest more e n g =
     let empty : xs ≡ [] = cc in
     ap Some (sym (append-nil ys) ∙ (ap (λ l. ys ++ l) (sym n) ∙ (g ∙ ap (λ l. (l ++ []) ++ more) empty)))
 
-pub put_on : (result : Result Tally Fault) (before after : Option (List Index)) (dir : List ℕ) (contents : Option (List ℕ)) (part : Part)
-    → MatchResult result (λ _. PutsIn true before after dir contents) (λ _. Grows before after [])
-    → (contents ≡ Some (first_line ++ part.out)) ⊎ (before ≡ None) → Grows before after (puts form.Index dir part result)
-put_on (Ok tally) before after dir contents part h (inl e) = h (first_line ++ part.out) e
-put_on (Ok tally) before after dir contents part h (inr e) = subst (λ (b : Option (List Index)). Grows b after (puts form.Index dir part (Ok tally))) (sym e) tt
-put_on (Err why) before after dir contents part h k = h
+pub put_on : (result : Result Tally Fault) (before after : Option (List Index)) (begun : Option (List ℕ)) (dir : List ℕ) (contents : Option (List ℕ)) (part : Part)
+    → MatchResult result (λ _. PutsIn true before after begun contents) (λ _. Grows before after [])
+    → ((begun ≡ Some dir) × (contents ≡ Some (first_line ++ part.out))) ⊎ (before ≡ None) → Grows before after (puts form.Index dir part result)
+put_on (Ok tally) before after begun dir contents part h (inl e) = h dir (first_line ++ part.out) e.0 e.1
+put_on (Ok tally) before after begun dir contents part h (inr e) = subst (λ (b : Option (List Index)). Grows b after (puts form.Index dir part (Ok tally))) (sym e) tt
+put_on (Err why) before after begun dir contents part h k = h
 
 -- ---- pages that are compressed
 

@@ -213,10 +213,15 @@ pub record Index : Type 0 where
 abbrev pub first_line : List ℕ
 first_line = codes "whatis 2\n"
 
--- what had the name of an index still has it, or a file with these bytes took it
-abbrev pub PutsIn : Bool → (before after : Option (List Index)) → (dir : List ℕ) → (contents : Option (List ℕ)) → Type 0
-PutsIn true before after dir contents = (bytes : List ℕ) → contents ≡ Some bytes → Grows before after (record { dir = dir; bytes = bytes } ∷ [])
-PutsIn false before after dir contents = Grows before after []
+-- where the indexes that took their names are known: an index of this directory was begun, in a file that is empty
+abbrev pub IsBegun : (put : Option (List Index)) → (begun : Option (List ℕ)) → (dir : List ℕ) → (contents : Option (List ℕ)) → Type 0
+IsBegun put begun dir contents = ((begun ≡ Some dir) × (contents ≡ Some [])) ⊎ (put ≡ None)
+
+-- what had the name of the index that was begun still has it, or a file with these bytes took it
+abbrev pub PutsIn : Bool → (before after : Option (List Index)) → (begun contents : Option (List ℕ)) → Type 0
+PutsIn true before after begun contents =
+    (dir bytes : List ℕ) → begun ≡ Some dir → contents ≡ Some bytes → Grows before after (record { dir = dir; bytes = bytes } ∷ [])
+PutsIn false before after begun contents = Grows before after []
 
 -- what was done with the pages of a directory: all were given; or an index was not begun
 abbrev pub Began : (sees : List ℕ → Sight → Type 0) → Form → (dir : List ℕ) → Part → Type 0

@@ -4,7 +4,7 @@ ghost use Rattle.std.specs.Prelude.{◌≡◌, ◌⊎◌, ◌<◌, ◌++◌, ℕ
 ghost use Rattle.page_core_streams.specs.Streams.{Grows};
 ghost use Rattle.mandoc_command.specs.Line.{indexes_of};
 ghost use Rattle.mandoc_formats.specs.Formats.{shown};
-ghost use Rattle.mandoc_programs.specs.Indexes.{Began, IsAll, IsAnswered, IsDir, Makes, MakesAll, Part, PutsIn, Reported, first_line, form_of, puts, tail};
+ghost use Rattle.mandoc_programs.specs.Indexes.{Began, IsAll, IsAnswered, IsBegun, IsDir, Makes, MakesAll, Part, PutsIn, Reported, first_line, form_of, puts, tail};
 ghost use Rattle.mandoc_formats.specs.Turns.{Came, Does};
 ghost use Rattle.mandoc_programs.specs.declared.pages.Form.TheVariants.{Index, Printed};
 
@@ -183,7 +183,7 @@ fn finish_index<R: Folders, P: IndexPlaces, V: Buffered>(
     err: &mut V,
 ) -> Result<Tally, Fault>
     requires form { pages.now.form ≡ Index }
-    requires empty { (P.File.contents file ≡ Some []) ⊎ (P.put places.old ≡ None) }
+    requires begun { IsBegun (P.put places.old) (P.begun places.old) pages.now.dir.now (P.File.contents file) }
     ensures { (part : Part) × Began (R.sees pages.now.files.now) Index pages.now.dir.now part × IsAnswered part.end result
         × Grows (V.contents err.old) (V.contents err.new) part.err
         × Grows (P.put places.old) (P.put places.new) (puts Index pages.now.dir.now part result) }
@@ -192,7 +192,7 @@ fn finish_index<R: Folders, P: IndexPlaces, V: Buffered>(
     let written = write_index(pages, &mut index, err);
     let file = index.into_inner();
     match written {
-        Ok(tally) => put_whole(places, pages.dir, file, tally),
+        Ok(tally) => put_whole(places, file, tally),
         Err(fault) => {
             places.give_up(file);
             Err(fault)
@@ -201,18 +201,13 @@ fn finish_index<R: Folders, P: IndexPlaces, V: Buffered>(
 }
 
 // Gives an index that is whole its name.
-fn put_whole<P: IndexPlaces>(
-    places: &mut P,
-    dir: &str,
-    file: P::File,
-    tally: Tally,
-) -> Result<Tally, Fault>
+fn put_whole<P: IndexPlaces>(places: &mut P, file: P::File, tally: Tally) -> Result<Tally, Fault>
     ensures result { (result ≡ Ok tally) ⊎ (result ≡ Err Fault.WriteText) }
     ensures put { MatchResult result
-        (λ _. PutsIn true (P.put places.old) (P.put places.new) dir.now (P.File.contents file))
+        (λ _. PutsIn true (P.put places.old) (P.put places.new) (P.begun places.old) (P.File.contents file))
         (λ _. Grows (P.put places.old) (P.put places.new) []) }
 {
-    if places.put_in_place(dir, file) {
+    if places.put_in_place(file) {
         return Ok(tally);
     }
     Err(Fault::WriteText)

@@ -80,6 +80,8 @@ impl<R: LockedFiles> IndexPlaces for IndexFiles<'_, R> {
 
     ghost put = { λ _. None };
 
+    ghost begun = { λ _. None };
+
     fn begin(&mut self, alloc: Global, dir: &str) -> Result<Option<R::File>, AllocError> {
         let unfinished = format!(in alloc; "{dir}/whatis.tmp")?;
         let name = format!(in alloc; "{dir}/whatis.idx")?;
@@ -89,7 +91,7 @@ impl<R: LockedFiles> IndexPlaces for IndexFiles<'_, R> {
     }
 
     // Another file in its place is not renamed. The file is closed, and so no longer locked, once that is done.
-    fn put_in_place(&mut self, _dir: &str, file: R::File) -> bool {
+    fn put_in_place(&mut self, file: R::File) -> bool {
         let Some((unfinished, name)) = &self.names else {
             return false;
         };

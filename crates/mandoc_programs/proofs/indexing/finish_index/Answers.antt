@@ -14,13 +14,15 @@ returns-in-Ok g c =
     let came = rw (c.new-index.ensures.out, c.new-index.ensures.bytes) at (h.4 refl) in
     let whole = λ (e : contents c.args.file ≡ Some []). ap contents c.into_inner-file.ensures
     ∙ whole_index (contents c.args.file) (contents index.out) index.bytes.items (first_line ++ h.0.out) e c.in-Ok.ensures.empty came in
-    let known : (contents c.into_inner-file.result ≡ Some (first_line ++ h.0.out)) ⊎ (g.P.IndexPlaces.put c.args.places.now ≡ None) =
-    elim c.requires.empty [ inl e ↦ inl (whole e) | inr none ↦ inr none ] in (
+    let dir = c.args.pages.now.dir.now in
+    let begun = g.P.IndexPlaces.begun c.args.places.now in
+    let known : ((begun ≡ Some dir) × (contents c.into_inner-file.result ≡ Some (first_line ++ h.0.out))) ⊎ (g.P.IndexPlaces.put c.args.places.now ≡ None) =
+    elim c.requires.begun [ inl e ↦ inl (e.0, whole e.1) | inr none ↦ inr none ] in (
       h.0,
       h.1,
       answered_on h.0.end c.in-Ok.tally c.put_whole.result h.2 c.put_whole.ensures.result,
       h.3,
-      put_on c.put_whole.result _ _ c.args.pages.now.dir.now (contents c.into_inner-file.result) h.0 c.put_whole.ensures.put known,
+      put_on c.put_whole.result _ _ begun dir (contents c.into_inner-file.result) h.0 c.put_whole.ensures.put known,
     )
 
 pub returns-in-Err : goal.returns-in-Err
