@@ -1,6 +1,6 @@
 //! The pages of a command line, each from its bytes to its rows, its messages and its status (mandoc(1), DESCRIPTION).
 
-ghost use Rattle.std.specs.Prelude.{◌≡◌, [], IfOk};
+ghost use Rattle.std.specs.Prelude.{◌≡◌, ◌⊎◌, [], IfOk};
 ghost use Rattle.std.specs.Io.KnownBytes.{Consumes};
 ghost use Rattle.page_core_streams.specs.Streams.{Grows};
 ghost use Rattle.mandoc_formats.specs.Formats.{Did, File, Page, IsPage, IsReported, page_out, page_err, Formatted, IsFile, IsFound, FormatsAll, IsPutOut};
@@ -31,9 +31,10 @@ pub fn format_all<R: Finds, I: Read, W: Buffered, V: Buffered>(
     out: &mut W,
     err: &mut V,
 ) -> u8
-    ensures { (file : File) × FormatsAll (R.finds rt.now) format.now.settings format.now.files (I.remaining input.old) file
+    ensures came { (file : File) × FormatsAll (R.finds rt.now) format.now.settings format.now.files (I.remaining input.old) file
         × Grows (W.contents out.old) (W.contents out.new) file.out × Grows (V.contents err.old) (V.contents err.new) file.err
         × (result ≡ file.end.status) × IsPutOut result (W.waits out.new) (V.waits err.new) }
+    ensures input { (format.now.files ≡ []) ⊎ (input.new ≡ input.old) }
 {
     let settings = &format.settings;
     let names = format.files.as_slice();

@@ -25,3 +25,8 @@ IsRun finds finds_regular sees (Format format) input run = (file : File) × Form
 IsRun finds finds_regular sees (Makewhatis asked) input run = (all : Came Makes) × MakesAll sees (indexes_of asked) all
     × (run ≡ record { out = all.out; err = all.err; put = all.end.put; status = all.end.done.status })
 IsRun finds finds_regular sees (Whatis asked) input run = (file : File) × SearchesFor finds_regular (searches_of asked) file × (run ≡ run_of file)
+
+-- the standard input is read by a page that has no file
+abbrev pub ReadsInput : Command → Type 0
+ReadsInput (Format format) = format.files ≡ []
+ReadsInput _ = ⊥

@@ -1,8 +1,8 @@
 //! What a command line asks for, done (mandoc(1), makewhatis(8), whatis(1)).
 
-ghost use Rattle.std.specs.Prelude.{◌≡◌, ◌<◌, []};
+ghost use Rattle.std.specs.Prelude.{◌≡◌, ◌⊎◌, ◌<◌, []};
 ghost use Rattle.page_core_streams.specs.Streams.{Grows};
-ghost use Rattle.mandoc_programs.specs.Commands.{IsRun, Run};
+ghost use Rattle.mandoc_programs.specs.Commands.{IsRun, ReadsInput, Run};
 
 use crate::folders::Folders;
 use crate::index_places::IndexPlaces;
@@ -29,6 +29,7 @@ pub fn run_command<F: Finds, R: Finds + Folders, P: IndexPlaces, I: Read, W: Buf
         × Grows (W.contents out.old) (W.contents out.new) run.out × Grows (V.contents err.old) (V.contents err.new) run.err
         × Grows (P.put places.old) (P.put places.new) run.put × (result ≡ run.status) }
     ensures put_out { W.waits out.old ≡ [] → result < 6 → W.waits out.new ≡ [] }
+    ensures input { ReadsInput command.now ⊎ (input.new ≡ input.old) }
 {
     match command {
         Command::Format(format) => format_all(files, alloc, format, input, out, err),

@@ -1,4 +1,4 @@
-use Rattle.std.proofs.Common.{ℕ, List, sym, ap, ◌∙◌, subst, arith, ◌+◌}
+use Rattle.std.proofs.Common.{ℕ, List, inl, sym, ap, ◌∙◌, subst, arith, ◌+◌}
 use Rattle.std.specs.Prelude.{string_bytes}
 use Rattle.mandoc_formats.specs.declared.faults.Done.{Done}
 use Rattle.mandoc_formats.specs.Formats.{IsFile}
@@ -7,11 +7,15 @@ use Rattle.mandoc_formats.proofs.Lists.{formats_none, formats_some, left, left_s
 use Rattle.mandoc_formats.proofs.Turns.{Passed, passed_none, passed_on, ended_at, ended_last, start}
 use Rattle.mandoc_formats.proofs.formatting.format_all.Goals as goal
 
-pub returns-then-is_empty : goal.returns-then-is_empty
-returns-then-is_empty g c =
+pub returns-then-is_empty-clause-came : goal.returns-then-is_empty-clause-came
+returns-then-is_empty-clause-came g c =
     let f = c.format_page.ensures in
     let n = no_names string_bytes c.as_slice-names.result.now c.args.format.now.files c.as_slice-names.ensures (sym c.is_empty.ensures ∙ c.if-is_empty.true) in
     (f.0, formats_none _ c.args.format.now.settings c.args.format.now.files _ f.0 n f.1, f.2, f.3, sym (ap (λ d. d.status) f.4), f.5)
+
+pub returns-then-is_empty-clause-input : goal.returns-then-is_empty-clause-input
+returns-then-is_empty-clause-input g c =
+    inl (no_names string_bytes c.as_slice-names.result.now c.args.format.now.files c.as_slice-names.ensures (sym c.is_empty.ensures ∙ c.if-is_empty.true))
 
 pub loop-name-init : goal.loop-name-init
 loop-name-init g c = (
@@ -19,8 +23,8 @@ loop-name-init g c = (
   λ p. absurd (omega (arith, p)),
 )
 
-pub returns-then-done : goal.returns-then-done
-returns-then-done g c =
+pub returns-then-done-clause-came : goal.returns-then-done-clause-came
+returns-then-done-clause-came g c =
     let done = c.format_file-done.result in
     let f = c.format_file-done.ensures in
     let names = c.as_slice-names.result.now in
@@ -51,8 +55,8 @@ loop-name-preserved g c =
       λ p. put_out_last _ _ _ _ _ c.max-worst.ensures f.5,
     )
 
-pub returns : goal.returns
-returns g c =
+pub returns-clause-came : goal.returns-clause-came
+returns-clause-came g c =
     let names = c.as_slice-names.result.now in
     let is = IsFile (g.R.Finds.finds c.args.rt.now) c.args.format.now.settings in
     let not_empty = sym c.is_empty.ensures ∙ c.if-is_empty.false in

@@ -1,16 +1,21 @@
-use Rattle.std.proofs.Common.{refl, sym, subst}
+use Rattle.std.proofs.Common.{◌≡◌, refl, sym, subst}
+use Rattle.std.specs.Prelude.{◌⊎◌}
 use Rattle.page_core_streams.specs.laws.Views.{Grows-nil}
 use Rattle.mandoc_command.specs.declared.commands.Command.{Command}
-use Rattle.mandoc_programs.specs.Commands.{IsRun, Run, run_of}
+use Rattle.mandoc_programs.specs.Commands.{IsRun, ReadsInput, Run, run_of}
 use Rattle.mandoc_programs.proofs.commands.run_command.Goals as goal
 
 pub returns-in-Format-clause-came : goal.returns-in-Format-clause-came
 returns-in-Format-clause-came g c =
-    let f = c.format_all.ensures in
+    let f = c.format_all.ensures.came in
     let run = run_of f.0 in
     let is = subst (λ (k : Command). IsRun (g.F.Finds.finds c.args.files.now) (g.R.Finds.finds c.args.regular.now) (g.R.Folders.sees c.args.regular.now) k
     (g.I.Read.remaining c.args.input.now) run) (sym c.in-Format.is) (f.0, f.1, refl) in
     (run, is, f.2, f.3, Grows-nil _, f.4)
+
+pub returns-in-Format-clause-input : goal.returns-in-Format-clause-input
+returns-in-Format-clause-input g c =
+    subst (λ (k : Command). ReadsInput k ⊎ (c.format_all.new.input ≡ c.args.input.now)) (sym c.in-Format.is) c.format_all.ensures.input
 
 pub returns-in-Makewhatis-clause-came : goal.returns-in-Makewhatis-clause-came
 returns-in-Makewhatis-clause-came g c =
