@@ -6,7 +6,7 @@ use Rattle.std.specs.Prelude.{codes, decimal}
 use Rattle.page_core_base.specs.declared.faults.Fault.TheVariants as fault
 use Rattle.page_core_streams.specs.Streams.{Grows, GrowsInto}
 use Rattle.page_core_streams.specs.laws.Views.{Writes, Grows-append}
-use Rattle.mandoc_formats.specs.Formats.{fault_text, line_about, line_end}
+use Rattle.mandoc_formats.specs.Formats.{HasFailed, fault_text, line_about, line_end}
 
 pub take_plus : (n m : ℕ) (xs : List ℕ) → n + m ≤ length xs → take n xs ++ take m (drop n xs) ≡ take (n + m) xs
 take_plus n m xs h =
@@ -18,6 +18,10 @@ keeps_grown None b c xs g k = tt
 keeps_grown (Some us) None c xs g k = absurd g
 keeps_grown (Some us) (Some vs) None xs g k = absurd k
 keeps_grown (Some us) (Some vs) (Some ws) xs g k = k ∙ g
+
+-- a writer whose failures are not counted
+pub uncounted : {S : Type 0} (failures : S → ℕ) (s : S) → HasFailed false failures
+uncounted failures s = record { before = s; after = s; rose = tt }
 
 -- ---- several writes
 

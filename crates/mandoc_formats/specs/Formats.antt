@@ -9,7 +9,7 @@ use Rattle.page_core_base.specs.declared.page_settings.SettingFault.TheVariants 
 use Rattle.page_core_base.specs.declared.page_settings.Settings.{Settings as PageSettings}
 use Rattle.page_core_base.specs.declared.page_settings.Output.{Output}
 use Rattle.page_core_base.specs.declared.page_settings.Output.TheVariants as output
-use Rattle.page_core_streams.specs.Streams.{Grows}
+use Rattle.page_core_streams.specs.Streams.{Grows, RisesIf}
 use Rattle.page_engine.specs.declared.runs.Outcome.{Outcome}
 use Rattle.page_engine.specs.Runs.{writers, Runs}
 use Rattle.mandoc_command.specs.Status.{status}
@@ -48,6 +48,14 @@ abbrev pub stops_after : Fault → Bool
 stops_after fault.WriteText = true
 stops_after fault.WriteNotes = true
 stops_after _ = false
+
+-- ---- what failed
+
+-- what bytes go to has failed: between two moments its count rose, where that is counted
+pub record HasFailed {S : Type 0} (counts : Bool) (failures : S → ℕ) : Type 0 where
+  pub before : S
+  pub after : S
+  pub rose : RisesIf counts (failures before) (failures after)
 
 -- ---- a page
 

@@ -1,10 +1,11 @@
 //! Bytes that wait for a writer.
 
-ghost use Rattle.std.specs.Prelude.{◌≡◌, ◌≤◌, ℕ, List, [], length, take, drop, true};
+ghost use Rattle.std.specs.Prelude.{◌≡◌, ◌≤◌, ℕ, List, [], length, take, drop, true, false};
 ghost use Rattle.std.specs.Io.KnownBytes.{append_known};
 ghost use Rattle.std.specs.List.{flat_map};
 ghost use Rattle.page_core_streams.specs.laws.Views.{Writes};
 ghost use Rattle.page_core_streams.specs.Streams.{Grows};
+ghost use Rattle.mandoc_formats.specs.Formats.{HasFailed};
 
 use arrayvec::ArrayVec;
 use page_core_streams::{Target, put_all};
@@ -21,7 +22,8 @@ pub trait Buffered: Target {
     /// Puts out what waits, and says whether that succeeded: then nothing waits.
     fn put_all_out(&mut self) -> bool
         ensures same { Grows (Self.contents self.old) (Self.contents self.new) [] }
-        ensures empty { result ≡ true → waits self.new ≡ [] };
+        ensures empty { result ≡ true → waits self.new ≡ [] }
+        ensures failed { result ≡ false → HasFailed Self.counts Self.failures };
 
     /// Puts out what waits and writes texts after it, or a front of them: no more bytes wait than before.
     fn put_through(&mut self, texts: &[&[u8]]) -> bool
@@ -105,8 +107,6 @@ fn keep_rest(bytes: &mut ArrayVec<u8, 4096>, sent: usize)
 }
 
 impl<W: Write> Target for Waiting<W> {
-    ghost use Rattle.std.specs.Prelude.{false};
-
     ghost contents = { λ s. append_known (W.contents s.out) s.bytes.items };
 
     ghost counts = { false };
@@ -133,6 +133,7 @@ impl<W: Write> Target for Waiting<W> {
 impl<W: Write> Buffered for Waiting<W> {
     ghost waits = { λ s. s.bytes.items };
 
+    #[tactic(auto, using(crate::proofs::Waits::uncounted))]
     fn put_all_out(&mut self) -> bool {
         self.send() && self.out.flush().is_ok()
     }

@@ -113,6 +113,11 @@ sorted_map f cmp (x ∷ xs) h k d z l =
     let k' : k < length (x ∷ xs) = omega (arith, l') in
     (λ i. is_lt (cmp (get_or-map f (x ∷ xs) (k + 1) x d l' i) (get_or-map f (x ∷ xs) k x d k' i))) ∙ h k x z l'
 
+-- by the answer of a call
+pub said_or : (answer : Bool) (P Q : Type 0) → (answer ≡ true → P) → (answer ≡ false → Q) → P ⊎ Q
+said_or true P Q f h = inl (f refl)
+said_or false P Q f h = inr (h refl)
+
 -- ---- the index of a directory
 
 -- an index that is whole takes its name, or can't

@@ -274,6 +274,10 @@ IsDir sees form.Index name came = MakesOf sees form.Index name came
 
 -- ---- a command
 
+-- no message waits to be put out, but where what messages go to failed
+abbrev pub IsSaid : (waits : List ℕ) → (failed : Type 0) → Type 0
+IsSaid waits failed = (waits ≡ []) ⊎ failed
+
 abbrev pub so : Makes → Makes → Makes
 so one other = record { done = worse one.done other.done; put = one.put ++ other.put }
 

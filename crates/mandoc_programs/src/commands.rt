@@ -2,6 +2,8 @@
 
 ghost use Rattle.std.specs.Prelude.{◌≡◌, ◌⊎◌, ◌<◌, []};
 ghost use Rattle.page_core_streams.specs.Streams.{Grows};
+ghost use Rattle.mandoc_formats.specs.Formats.{HasFailed};
+ghost use Rattle.mandoc_programs.specs.Indexes.{IsSaid};
 ghost use Rattle.mandoc_programs.specs.Commands.{IsRun, ReadsInput, Run};
 
 use crate::folders::Folders;
@@ -29,6 +31,7 @@ pub fn run_command<F: Finds, R: Finds + Folders, P: IndexPlaces, I: Read, W: Buf
         × Grows (W.contents out.old) (W.contents out.new) run.out × Grows (V.contents err.old) (V.contents err.new) run.err
         × Grows (P.put places.old) (P.put places.new) run.put × (result ≡ run.status) }
     ensures put_out { W.waits out.old ≡ [] → result < 6 → W.waits out.new ≡ [] }
+    ensures said { V.waits err.old ≡ [] → result < 6 → IsSaid (V.waits err.new) (HasFailed V.counts V.failures) }
     ensures input { ReadsInput command.now ⊎ (input.new ≡ input.old) }
 {
     match command {

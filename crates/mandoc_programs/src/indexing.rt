@@ -3,8 +3,8 @@
 ghost use Rattle.std.specs.Prelude.{◌≡◌, ◌⊎◌, ◌<◌, ◌++◌, ℕ, List, [], Ok, Err, Some, None, true, IsOk, IfOk, MatchResult};
 ghost use Rattle.page_core_streams.specs.Streams.{Grows};
 ghost use Rattle.mandoc_command.specs.Line.{indexes_of};
-ghost use Rattle.mandoc_formats.specs.Formats.{shown};
-ghost use Rattle.mandoc_programs.specs.Indexes.{Began, IsAll, IsAnswered, IsBegun, IsDir, Makes, MakesAll, Part, PutsIn, Reported, first_line, form_of, puts, tail};
+ghost use Rattle.mandoc_formats.specs.Formats.{HasFailed, shown};
+ghost use Rattle.mandoc_programs.specs.Indexes.{Began, IsAll, IsAnswered, IsBegun, IsDir, IsSaid, Makes, MakesAll, Part, PutsIn, Reported, first_line, form_of, puts, tail};
 ghost use Rattle.mandoc_formats.specs.Turns.{Came, Does};
 ghost use Rattle.mandoc_programs.specs.declared.pages.Form.TheVariants.{Index, Printed};
 
@@ -37,6 +37,7 @@ pub fn makewhatis<R: Folders, P: IndexPlaces, W: Buffered, V: Buffered>(
         × Grows (W.contents out.old) (W.contents out.new) all.out × Grows (V.contents err.old) (V.contents err.new) all.err
         × Grows (P.put places.old) (P.put places.new) all.end.put × (result ≡ all.end.done.status) }
     ensures put_out { W.waits out.old ≡ [] → result < 6 → W.waits out.new ≡ [] }
+    ensures said { V.waits err.old ≡ [] → result < 6 → IsSaid (V.waits err.new) (HasFailed V.counts V.failures) }
 {
     let form = form_of(asked.prints);
     let names = asked.dirs.as_slice();
@@ -76,6 +77,7 @@ fn give_dir<R: Folders, P: IndexPlaces, W: Buffered, V: Buffered>(
         (W.contents out.old) (W.contents out.new) (V.contents err.old) (V.contents err.new)
         × Grows (P.put places.old) (P.put places.new) end.put × (end.done ≡ result) }
     ensures put_out { W.waits out.old ≡ [] → result.status < 6 → W.waits out.new ≡ [] }
+    ensures said { result.status < 6 → IsSaid (V.waits err.new) (HasFailed V.counts V.failures) }
 {
     match pages.form {
         Form::Printed => print_dir(pages, out, err),
@@ -93,6 +95,7 @@ fn print_dir<R: Folders, W: Buffered, V: Buffered>(
     ensures came { Does (IsDir (R.sees pages.now.files.now) Printed pages.now.dir.now) (record { done = result; put = [] })
         (W.contents out.old) (W.contents out.new) (V.contents err.old) (V.contents err.new) }
     ensures put_out { result.status < 6 → W.waits out.new ≡ [] }
+    ensures said { result.status < 6 → IsSaid (V.waits err.new) (HasFailed V.counts V.failures) }
 {
     if !pages.files.is_dir(pages.dir) {
         put_line_at(err, pages.dir, "cannot open");
@@ -109,20 +112,25 @@ fn make_index<R: Folders, P: IndexPlaces, V: Buffered>(
     err: &mut V,
 ) -> Done
     requires { pages.now.form ≡ Index }
-    ensures { (end : Makes) × Does (IsDir (R.sees pages.now.files.now) Index pages.now.dir.now) end None None (V.contents err.old) (V.contents err.new)
+    ensures came { (end : Makes) × Does (IsDir (R.sees pages.now.files.now) Index pages.now.dir.now) end None None (V.contents err.old) (V.contents err.new)
         × Grows (P.put places.old) (P.put places.new) end.put × (end.done ≡ result) }
+    ensures said { result.status < 6 → IsSaid (V.waits err.new) (HasFailed V.counts V.failures) }
 {
     let made = put_index(pages, places, err);
     report_end(pages.form, pages.dir, made, err)
 }
 
-// Reports the fault that ended a directory, if one did, and answers what it left.
+// Reports the fault that ended a directory, if one did, puts out what waits of its messages, and answers what it left.
 fn report_end<V: Buffered>(form: Form, dir: &str, end: Result<Tally, Fault>, err: &mut V) -> Done
     ensures came { (line : List ℕ) × Grows (V.contents err.old) (V.contents err.new) line × Reported (shown dir.now ++ tail form) end line result }
     ensures failed { result.status < 6 → IsOk end }
+    ensures said { result.status < 6 → IsSaid (V.waits err.new) (HasFailed V.counts V.failures) }
 {
     match end {
-        Ok(tally) => Done::with(tally.status),
+        Ok(tally) => {
+            err.put_all_out();
+            Done::with(tally.status)
+        }
         Err(fault) => report_fault_at(err, dir, tail(form), fault),
     }
 }

@@ -1,4 +1,4 @@
-use Rattle.std.proofs.Common.{◌≡◌, refl, sym, subst}
+use Rattle.std.proofs.Common.{◌≡◌, ◌∙◌, ap, inl, refl, sym, subst}
 use Rattle.std.specs.Prelude.{◌⊎◌}
 use Rattle.page_core_streams.specs.laws.Views.{Grows-nil}
 use Rattle.mandoc_command.specs.declared.commands.Command.{Command}
@@ -32,3 +32,9 @@ returns-in-Whatis-clause-came g c =
     let is = subst (λ (k : Command). IsRun (g.F.Finds.finds c.args.files.now) (g.R.Finds.finds c.args.regular.now) (g.R.Folders.sees c.args.regular.now) k
     (g.I.Read.remaining c.args.input.now) run) (sym c.in-Whatis.is) (f.0, f.1, refl) in
     (run, is, f.2, f.3, Grows-nil _, f.4)
+
+pub returns-in-Format-clause-said : goal.returns-in-Format-clause-said
+returns-in-Format-clause-said g c e l = inl (c.format_all.ensures.came.5 l).1
+
+pub returns-in-Whatis-clause-said : goal.returns-in-Whatis-clause-said
+returns-in-Whatis-clause-said g c e l = inl (ap g.V.Buffered.waits (c.search.ensures.put_out l).1 ∙ e)

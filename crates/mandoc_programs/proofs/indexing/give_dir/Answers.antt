@@ -14,7 +14,7 @@ returns-in-Printed-clause-came g c =
 
 pub returns-in-Index-clause-came : goal.returns-in-Index-clause-came
 returns-in-Index-clause-came g c =
-    let h = c.make_index.ensures in
+    let h = c.make_index.ensures.came in
     let m = h.1 in
     let a = g.W.Target.contents c.args.out.now in
     let is = subst (λ (f : Form). IsDir (g.R.Folders.sees c.args.pages.now.files.now) f c.args.pages.now.dir.now m.0) (sym c.in-Index.is) m.1 in

@@ -6,8 +6,8 @@ use Rattle.mandoc_formats.specs.Formats.{shown}
 use Rattle.mandoc_programs.specs.Indexes.{Makes, Reported, puts, tail}
 use Rattle.mandoc_programs.proofs.indexing.make_index.Goals as goal
 
-pub returns : goal.returns
-returns g c =
+pub returns-clause-came : goal.returns-clause-came
+returns-clause-came g c =
     let h = c.put_index-made.ensures in
     let r = c.report_end.ensures.came in
     let dir = c.args.pages.now.dir.now in

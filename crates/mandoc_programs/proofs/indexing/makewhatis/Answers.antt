@@ -1,4 +1,4 @@
-use Rattle.std.proofs.Common.{◌≡◌, ℕ, List, refl, ap, sym, ◌∙◌, subst, arith, max}
+use Rattle.std.proofs.Common.{◌≡◌, ℕ, List, inl, refl, ap, sym, ◌∙◌, subst, arith, max}
 use Rattle.std.specs.Prelude.{string_bytes}
 use Rattle.page_core_streams.specs.Streams.{Grows}
 use Rattle.page_core_streams.specs.laws.Views.{Grows-nil, Grows-append}
@@ -12,7 +12,7 @@ use Rattle.mandoc_programs.proofs.indexing.makewhatis.Goals as goal
 pub loop-name-init : goal.loop-name-init
 loop-name-init g c =
     let is = IsDir (g.R.Folders.sees c.args.files.now) c.form_of-form.result in
-    (none_made, passed_none so stops_making is string_bytes c.as_slice-names.result.now none_made _ _, Grows-nil _, refl, λ e l. e)
+    (none_made, passed_none so stops_making is string_bytes c.as_slice-names.result.now none_made _ _, Grows-nil _, refl, λ e l. e, λ e l. inl e)
 
 pub returns-then-done : goal.returns-then-done
 returns-then-done g c =
@@ -35,6 +35,7 @@ returns-then-done g c =
         worst ∙ (status ∙ sym (ap (λ e. e.done.status) h.4)),
       );
       put_out = λ e l. c.give_dir-done.ensures.put_out (i.4 e (omega (arith, l, worst))) (omega (arith, l, worst));
+      said = λ e l. c.give_dir-done.ensures.said (omega (arith, l, worst));
     }
 
 pub loop-name-preserved : goal.loop-name-preserved
@@ -49,6 +50,7 @@ loop-name-preserved g c =
       Grows-append _ _ _ i.0.put m.0.put i.2 m.2,
       (λ k. worse (i.3 k) (m.3 k)) ∙ left_so c.loop-name.worst c.max-worst.result done c.max-worst.ensures c.if-done.false,
       λ e l. c.give_dir-done.ensures.put_out (i.4 e (omega (arith, l, worst))) (omega (arith, l, worst)),
+      λ e l. c.give_dir-done.ensures.said (omega (arith, l, worst)),
     )
 
 pub returns : goal.returns
@@ -66,4 +68,5 @@ returns g c =
         sym (ap (λ d. d.status) i.3) ∙ sym (ap (λ e. e.done.status) h.4),
       );
       put_out = i.4;
+      said = i.5;
     }

@@ -1,17 +1,20 @@
 use Rattle.std.proofs.Common.{[], ℕ, List, ◌++◌, Result, false, refl, sym, subst}
 use Rattle.page_core_base.specs.declared.faults.Fault.{Fault}
 use Rattle.page_core_streams.specs.Streams.{GrowsInto}
-use Rattle.page_core_streams.specs.laws.Views.{Grows-nil}
 use Rattle.mandoc_programs.specs.declared.pages.Tally.{Tally}
 use Rattle.mandoc_formats.specs.Formats.{fault_line, shown, stops_after}
 use Rattle.mandoc_programs.specs.Indexes.{Reported, tail}
 use Rattle.mandoc_formats.proofs.Lists.{done_is}
+use Rattle.mandoc_programs.proofs.Parts.{said_or}
 use Rattle.mandoc_programs.proofs.indexing.report_end.Goals as goal
 
 pub returns-in-Ok-clause-came : goal.returns-in-Ok-clause-came
 returns-in-Ok-clause-came g c =
     let done = done_is c.with.result c.in-Ok.tally.status false c.with.ensures.status c.with.ensures.goes_on in
-    ([], Grows-nil _, subst (λ (end : Result Tally Fault). Reported (shown c.args.dir.now ++ tail c.args.form) end [] c.with.result) (sym c.in-Ok.is) (refl, done))
+    ([], c.put_all_out.ensures.same, subst (λ (end : Result Tally Fault). Reported (shown c.args.dir.now ++ tail c.args.form) end [] c.with.result) (sym c.in-Ok.is) (refl, done))
+
+pub returns-in-Ok-clause-said : goal.returns-in-Ok-clause-said
+returns-in-Ok-clause-said g c l = said_or c.put_all_out.result _ _ c.put_all_out.ensures.empty c.put_all_out.ensures.failed
 
 pub returns-in-Err-clause-came : goal.returns-in-Err-clause-came
 returns-in-Err-clause-came g c =
