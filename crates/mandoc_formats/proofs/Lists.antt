@@ -6,9 +6,8 @@ use Rattle.page_core_base.specs.declared.page_settings.Settings.{Settings as Pag
 use Rattle.page_core_base.specs.declared.page_settings.Output.{Output}
 use Rattle.page_core_base.specs.declared.page_settings.Output.TheVariants as output
 use Rattle.mandoc_formats.specs.declared.faults.Done.{Done}
-use Rattle.page_core_streams.specs.Streams.{GrowsInto}
 use Rattle.page_core_streams.specs.laws.Views.{Grows-nil}
-use Rattle.mandoc_formats.specs.Formats.{File, Page, Formatted, IsFile, FormatsAll, page_out, page_err, Did, IsPutOut}
+use Rattle.mandoc_formats.specs.Formats.{File, Page, Formatted, IsFile, FormatsAll, Tells, page_out, page_err, Did, IsPutOut}
 use Rattle.mandoc_formats.specs.Turns.{InTurn, does_stop, worse as join}
 use Rattle.mandoc_formats.proofs.Turns.{start}
 
@@ -26,16 +25,16 @@ pub some_names : {X : Type 0} (f : X → List ℕ) (xs : List X) (names : List (
 some_names f [] names e t = grind arith
 some_names f (x ∷ xs) names e t = subst (λ (l : List (List ℕ)). 0 < length l) e (omega arith)
 
-pub formats_none : (finds : List ℕ → Option (Option (List ℕ)) → Type 0) (settings : PageSettings) (names : List (List ℕ)) (input : Option (List ℕ)) (file : File)
-    → names ≡ [] → Formatted settings (codes "<stdin>") input file → FormatsAll finds settings names input file
+pub formats_none : (finds : List ℕ → Option (Option (List ℕ)) → Type 0) (failed : Type 0) (settings : PageSettings) (names : List (List ℕ)) (input : Option (List ℕ)) (file : File)
+    → names ≡ [] → Formatted failed settings (codes "<stdin>") input file → FormatsAll finds failed settings names input file
 unfolding FormatsAll
-formats_none finds settings names input file e h = subst (λ (l : List (List ℕ)). FormatsAll finds settings l input file) (sym e) h
+formats_none finds failed settings names input file e h = subst (λ (l : List (List ℕ)). FormatsAll finds failed settings l input file) (sym e) h
 
-pub formats_some : (finds : List ℕ → Option (Option (List ℕ)) → Type 0) (settings : PageSettings) (names : List (List ℕ)) (input : Option (List ℕ)) (file : File)
-    → 0 < length names → InTurn join does_stop (IsFile finds settings) names (start (left 0)) file → FormatsAll finds settings names input file
+pub formats_some : (finds : List ℕ → Option (Option (List ℕ)) → Type 0) (failed : Type 0) (settings : PageSettings) (names : List (List ℕ)) (input : Option (List ℕ)) (file : File)
+    → 0 < length names → InTurn join does_stop (IsFile finds failed settings) names (start (left 0)) file → FormatsAll finds failed settings names input file
 unfolding FormatsAll
-formats_some finds settings [] input file l h = absurd (omega (arith, l))
-formats_some finds settings (name ∷ names) input file l h = h
+formats_some finds failed settings [] input file l h = absurd (omega (arith, l))
+formats_some finds failed settings (name ∷ names) input file l h = h
 
 pub worse : (a b : ℕ) → ord_max nat_cmp a b ≡ max a b
 worse a b = grind arith
@@ -60,10 +59,10 @@ pub put_out_last : (worst worst' status : ℕ) (a b : List ℕ) → worst' ≡ o
 put_out_last worst worst' status a b m h l = let e = m ∙ worse worst status in h (omega (arith, e, l))
 
 -- a line about a file came, or a front of it
-pub reported : (is : File → Type 0) (done : Done) (a c d : Option (List ℕ)) (text : List ℕ) (put_out : Type 0) (line : GrowsInto c d text)
-    → is (record { out = []; err = line.done; end = done }) → done.status ≡ 6 → Did is done a a c d put_out
-reported is done a c d text put_out line it failed =
-    (record { out = []; err = line.done; end = done }, it, Grows-nil a, line.grows, refl, none_below done.status put_out failed)
+pub reported : (is : File → Type 0) (done : Done) (a c d : Option (List ℕ)) (text : List ℕ) (put_out failed : Type 0) (line : Tells failed c d text)
+    → is (record { out = []; err = line.part; end = done }) → done.status ≡ 6 → Did is done a a c d put_out
+reported is done a c d text put_out failed line it six =
+    (record { out = []; err = line.part; end = done }, it, Grows-nil a, line.grows, refl, none_below done.status put_out six)
 
 pub past_first : {X : Type 0} (xs : List X) (i : ℕ) → (length xs == 0) ≡ false → length xs ≤ i → 0 < i
 past_first [] i t h = grind arith

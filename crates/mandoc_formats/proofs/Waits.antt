@@ -1,12 +1,12 @@
 -- Bytes that wait for a writer.
-use Rattle.std.proofs.Common.{◌≡◌, ℕ, Bool, true, false, List, [], ◌∷◌, ◌++◌, Option, Some, None, sym, ap, ◌∙◌, take, drop, length, ◌≤◌, ◌+◌, take-append-drop, append_assoc, append-nil, arith}
+use Rattle.std.proofs.Common.{◌≡◌, ℕ, Bool, true, false, List, [], ◌∷◌, ◌++◌, Option, Some, None, refl, inl, inr, sym, ap, ◌∙◌, take, drop, length, ◌≤◌, ◌+◌, take-append-drop, append_assoc, arith}
 use Rattle.std.proofs.lemmas.List.{take-take, drop-take}
 use Rattle.std.specs.Io.KnownBytes.{Keeps}
 use Rattle.std.specs.Prelude.{codes, decimal}
 use Rattle.page_core_base.specs.declared.faults.Fault.TheVariants as fault
 use Rattle.page_core_streams.specs.Streams.{Grows, GrowsInto}
-use Rattle.page_core_streams.specs.laws.Views.{Writes, Grows-append}
-use Rattle.mandoc_formats.specs.Formats.{HasFailed, fault_text, line_about, line_end}
+use Rattle.page_core_streams.specs.laws.Views.{FailsBy, Writes, Grows-append}
+use Rattle.mandoc_formats.specs.Formats.{HasFailed, Tells, fault_text, line_about, line_end}
 
 pub take_plus : (n m : ℕ) (xs : List ℕ) → n + m ≤ length xs → take n xs ++ take m (drop n xs) ≡ take (n + m) xs
 take_plus n m xs h =
@@ -23,6 +23,11 @@ keeps_grown (Some us) (Some vs) (Some ws) xs g k = k ∙ g
 pub uncounted : {S : Type 0} (failures : S → ℕ) (s : S) → HasFailed false failures
 uncounted failures s = record { before = s; after = s; rose = tt }
 
+-- a call that failed
+pub failed_by : {S : Type 0} (counts : Bool) (failures : S → ℕ) (r : Bool) (s t : S) → FailsBy counts r (failures s) (failures t) → r ≡ false → HasFailed counts failures
+failed_by counts failures true s t h e = absurd (cc)
+failed_by counts failures false s t h e = record { before = s; after = t; rose = h }
+
 -- ---- several writes
 
 pub writes_on : (r : Bool) (a b c : Option (List ℕ)) (xs ys : List ℕ) → Grows a b xs → Writes r b c ys → Writes r a c (xs ++ ys)
@@ -37,9 +42,9 @@ writes_on false a b c xs ys g w = record {
 pub ended_before : (a b : Option (List ℕ)) (xs ys : List ℕ) → GrowsInto a b xs → GrowsInto a b (xs ++ ys)
 ended_before a b xs ys h = record { done = h.done; rest = h.rest ++ ys; parts = ap (λ l. l ++ ys) h.parts ∙ append_assoc h.done h.rest ys; grows = h.grows }
 
-pub written_into : (r : Bool) (a b : Option (List ℕ)) (xs : List ℕ) → Writes r a b xs → GrowsInto a b xs
-written_into true a b xs w = record { done = xs; rest = []; parts = sym (append-nil xs); grows = w }
-written_into false a b xs w = w
+pub tells : (r : Bool) (failed : Type 0) (a b : Option (List ℕ)) (xs : List ℕ) → Writes r a b xs → (r ≡ false → failed) → Tells failed a b xs
+tells true failed a b xs w f = record { part = xs; told = inl refl; grows = w }
+tells false failed a b xs w f = record { part = w.done; told = inr (f refl, (w.rest, w.parts)); grows = w.grows }
 
 -- ---- lines about files
 

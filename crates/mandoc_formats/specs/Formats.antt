@@ -57,11 +57,21 @@ pub record HasFailed {S : Type 0} (counts : Bool) (failures : S → ℕ) : Type 
   pub after : S
   pub rose : RisesIf counts (failures before) (failures after)
 
--- ---- a page
-
 -- a front of all
 abbrev pub Front : List ℕ → List ℕ → Type 0
 Front part all = (rest : List ℕ) × (all ≡ part ++ rest)
+
+-- a line came; or a front of it, where what it goes to has failed
+abbrev pub Told : (failed : Type 0) → (part line : List ℕ) → Type 0
+Told failed part line = (part ≡ line) ⊎ (failed × Front part line)
+
+-- what is known of it grew so
+pub record Tells (failed : Type 0) (before after : Option (List ℕ)) (line : List ℕ) : Type 0 where
+  pub part : List ℕ
+  pub told : Told failed part line
+  pub grows : Grows before after part
+
+-- ---- a page
 
 -- what a run over a page read and gave, and how it ended
 pub record Page : Type 0 where
@@ -95,7 +105,7 @@ abbrev pub File : Type 0
 File = Came Done
 
 -- a page was formatted under a name, and its fault reported
-pub record Formatted (settings : PageSettings) (name : List ℕ) (before : Option (List ℕ)) (file : File) : Type 0 where
+pub record Formatted (failed : Type 0) (settings : PageSettings) (name : List ℕ) (before : Option (List ℕ)) (file : File) : Type 0 where
   pub page : Page
   pub is : IsPage settings name page
   pub read : Consumes before page.left page.bytes
@@ -104,13 +114,13 @@ pub record Formatted (settings : PageSettings) (name : List ℕ) (before : Optio
   pub out : file.out ≡ page_out settings.output page
   pub told : MatchResult result
       (λ outcome. (file.err ≡ page_err settings.output page) × (file.end.status ≡ status outcome.worst) × (file.end.stops ≡ false))
-      (λ fault. ((line : List ℕ) × (file.err ≡ page_err settings.output page ++ line) × Front line (fault_line name fault))
+      (λ fault. ((line : List ℕ) × (file.err ≡ page_err settings.output page ++ line) × Told failed line (fault_line name fault))
       × (file.end.status ≡ 6) × (file.end.stops ≡ stops_after fault))
 
 -- no file could be opened
-pub record Unopened (name : List ℕ) (file : File) : Type 0 where
+pub record Unopened (failed : Type 0) (name : List ℕ) (file : File) : Type 0 where
   pub out : file.out ≡ []
-  pub err : Front file.err (unopened_line name)
+  pub err : Told failed file.err (unopened_line name)
   pub status : file.end.status ≡ 6
   pub goes_on : file.end.stops ≡ false
 
@@ -119,26 +129,27 @@ abbrev pub shown : List ℕ → List ℕ
 shown name = flat_map (λ c. encode_utf8 (if is_hidden c then 63 else c)) (chars name)
 
 -- there was no memory for its name
-pub record Unnamed (name : List ℕ) (file : File) : Type 0 where
+pub record Unnamed (failed : Type 0) (name : List ℕ) (file : File) : Type 0 where
   pub out : file.out ≡ []
-  pub err : Front file.err (fault_line name fault.Memory)
+  pub err : Told failed file.err (fault_line name fault.Memory)
   pub status : file.end.status ≡ 6
   pub goes_on : file.end.stops ≡ false
 
 -- what was found under a name: none that can be opened, or a file with its bytes, of which this came
-abbrev pub IsFound : (finds : List ℕ → Option (Option (List ℕ)) → Type 0) → (is : Option (List ℕ) → File → Type 0) → (name shown : List ℕ) → File → Type 0
-IsFound finds is name shown file = (finds name None × Unopened shown file) ⊎ ((bytes : Option (List ℕ)) × finds name (Some bytes) × is bytes file)
+abbrev pub IsFound : (finds : List ℕ → Option (Option (List ℕ)) → Type 0) → (failed : Type 0) → (is : Option (List ℕ) → File → Type 0) → (name shown : List ℕ) → File → Type 0
+IsFound finds failed is name shown file = (finds name None × Unopened failed shown file) ⊎ ((bytes : Option (List ℕ)) × finds name (Some bytes) × is bytes file)
 
-abbrev pub IsFile : (finds : List ℕ → Option (Option (List ℕ)) → Type 0) → PageSettings → (name : List ℕ) → File → Type 0
-IsFile finds settings name file = Unnamed (shown name) file ⊎ IsFound finds (Formatted settings (shown name)) name (shown name) file
+abbrev pub IsFile : (finds : List ℕ → Option (Option (List ℕ)) → Type 0) → (failed : Type 0) → PageSettings → (name : List ℕ) → File → Type 0
+IsFile finds failed settings name file =
+    Unnamed failed (shown name) file ⊎ IsFound finds failed (Formatted failed settings (shown name)) name (shown name) file
 
 -- ---- the files of a command
 
 -- of each in turn; no files: the standard input is formatted
-unfoldable pub FormatsAll : (finds : List ℕ → Option (Option (List ℕ)) → Type 0) → PageSettings → (names : List (List ℕ)) → (input : Option (List ℕ)) → File → Type 0
-FormatsAll finds settings [] input file = Formatted settings (codes "<stdin>") input file
-FormatsAll finds settings (name ∷ names) input file =
-    InTurn worse does_stop (IsFile finds settings) (name ∷ names) (record { out = []; err = []; end = record { status = 0; stops = false } }) file
+unfoldable pub FormatsAll : (finds : List ℕ → Option (Option (List ℕ)) → Type 0) → (failed : Type 0) → PageSettings → (names : List (List ℕ)) → (input : Option (List ℕ)) → File → Type 0
+FormatsAll finds failed settings [] input file = Formatted failed settings (codes "<stdin>") input file
+FormatsAll finds failed settings (name ∷ names) input file =
+    InTurn worse does_stop (IsFile finds failed settings) (name ∷ names) (record { out = []; err = []; end = record { status = 0; stops = false } }) file
 
 -- a status below that of a failure: nothing waits to be put out
 abbrev pub IsPutOut : ℕ → (out_waits err_waits : List ℕ) → Type 0

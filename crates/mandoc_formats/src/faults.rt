@@ -1,9 +1,8 @@
 //! What is reported of files that fail, and how a run goes on after that (mandoc(1), DIAGNOSTICS and EXIT STATUS).
 
 ghost use Rattle.std.specs.Prelude.{◌≡◌, ◌++◌, false, codes};
-ghost use Rattle.page_core_streams.specs.Streams.{GrowsInto};
 ghost use Rattle.page_core_streams.specs.laws.Views.{Writes};
-ghost use Rattle.mandoc_formats.specs.Formats.{fault_text, stops_after, fault_line, unopened_line, line_about, line_end, shown};
+ghost use Rattle.mandoc_formats.specs.Formats.{HasFailed, Tells, fault_text, stops_after, fault_line, unopened_line, line_about, line_end, shown};
 
 use crate::names::put_name;
 use crate::waiting::Buffered;
@@ -37,7 +36,7 @@ impl Done {
 
 /// Reports a file that can't be opened. It is passed over, and the next one goes on, also where that line can't be printed.
 pub fn report_unopened<V: Buffered>(err: &mut V, shown: &str) -> Done
-    ensures line { GrowsInto (V.contents err.old) (V.contents err.new) (unopened_line shown.now) }
+    ensures line { Tells (HasFailed V.counts V.failures) (V.contents err.old) (V.contents err.new) (unopened_line shown.now) }
     ensures status { result.status ≡ 6 }
     ensures goes_on { result.stops ≡ false }
 {
@@ -47,7 +46,7 @@ pub fn report_unopened<V: Buffered>(err: &mut V, shown: &str) -> Done
 
 /// Reports a fault at a file that messages have by another name. After one of writing nothing further can be written.
 pub fn report_fault<V: Buffered>(err: &mut V, shown: &str, fault: Fault) -> Done
-    ensures line { GrowsInto (V.contents err.old) (V.contents err.new) (fault_line shown.now fault) }
+    ensures line { Tells (HasFailed V.counts V.failures) (V.contents err.old) (V.contents err.new) (fault_line shown.now fault) }
     ensures status { result.status ≡ 6 }
     ensures stops { result.stops ≡ stops_after fault }
 {
@@ -57,7 +56,7 @@ pub fn report_fault<V: Buffered>(err: &mut V, shown: &str, fault: Fault) -> Done
 
 /// Reports a fault at what has a name below `dir`, or at `dir` itself, with no memory of its own.
 pub fn report_fault_at<V: Buffered>(err: &mut V, dir: &str, name: &str, fault: Fault) -> Done
-    ensures line { GrowsInto (V.contents err.old) (V.contents err.new) (fault_line (shown dir.now ++ name.now) fault) }
+    ensures line { Tells (HasFailed V.counts V.failures) (V.contents err.old) (V.contents err.new) (fault_line (shown dir.now ++ name.now) fault) }
     ensures status { result.status ≡ 6 }
     ensures stops { result.stops ≡ stops_after fault }
 {
@@ -79,7 +78,8 @@ fn failed_by(fault: Fault) -> Done
 // Writes the line about a fault at a file; else a front of it was written.
 #[tactic(auto, using(crate::proofs::Waits::writes_on, crate::proofs::Waits::ended_before))]
 fn put_fault<V: Buffered>(err: &mut V, shown: &str, fault: Fault) -> bool
-    ensures { Writes result (V.contents err.old) (V.contents err.new) (fault_line shown.now fault) }
+    ensures failed { result ≡ false → HasFailed V.counts V.failures }
+    ensures writes { Writes result (V.contents err.old) (V.contents err.new) (fault_line shown.now fault) }
 {
     if err.put_through(&[b"mandoc: "]) {
         return put_end(err, shown, fault);
@@ -89,7 +89,8 @@ fn put_fault<V: Buffered>(err: &mut V, shown: &str, fault: Fault) -> bool
 
 // Writes the line about a fault at what has a name below a directory.
 fn put_fault_at<V: Buffered>(err: &mut V, dir: &str, name: &str, fault: Fault) -> bool
-    ensures { Writes result (V.contents err.old) (V.contents err.new) (fault_line (shown dir.now ++ name.now) fault) }
+    ensures failed { result ≡ false → HasFailed V.counts V.failures }
+    ensures writes { Writes result (V.contents err.old) (V.contents err.new) (fault_line (shown dir.now ++ name.now) fault) }
 {
     if put_front(err, dir) {
         return put_end(err, name, fault);
@@ -100,7 +101,8 @@ fn put_fault_at<V: Buffered>(err: &mut V, dir: &str, name: &str, fault: Fault) -
 /// Writes a line about what has a name; else a front of it was written.
 #[tactic(auto, using(crate::proofs::Waits::writes_on, crate::proofs::Waits::ended_before))]
 pub fn put_line_at<V: Buffered>(err: &mut V, name: &str, text: &str) -> bool
-    ensures { Writes result (V.contents err.old) (V.contents err.new) (line_about (shown name.now) text.now) }
+    ensures failed { result ≡ false → HasFailed V.counts V.failures }
+    ensures writes { Writes result (V.contents err.old) (V.contents err.new) (line_about (shown name.now) text.now) }
 {
     if put_front(err, name) {
         return err.put_through(&[b": ", text.as_bytes(), b"\n"]);
@@ -111,7 +113,8 @@ pub fn put_line_at<V: Buffered>(err: &mut V, name: &str, text: &str) -> bool
 /// Writes the front of a line about what has a name, up to that name; else a front of it was written.
 #[tactic(auto, using(crate::proofs::Waits::writes_on, crate::proofs::Waits::ended_before))]
 pub fn put_front<V: Buffered>(err: &mut V, name: &str) -> bool
-    ensures { Writes result (V.contents err.old) (V.contents err.new) (codes "mandoc: " ++ shown name.now) }
+    ensures failed { result ≡ false → HasFailed V.counts V.failures }
+    ensures writes { Writes result (V.contents err.old) (V.contents err.new) (codes "mandoc: " ++ shown name.now) }
 {
     if err.put_through(&[b"mandoc: "]) {
         return put_name(err, name);
@@ -121,7 +124,8 @@ pub fn put_front<V: Buffered>(err: &mut V, name: &str) -> bool
 
 // Writes the end of the line about a fault, from a name on.
 fn put_end<V: Buffered>(err: &mut V, name: &str, fault: Fault) -> bool
-    ensures { Writes result (V.contents err.old) (V.contents err.new) (line_end name.now (fault_text fault)) }
+    ensures failed { result ≡ false → HasFailed V.counts V.failures }
+    ensures writes { Writes result (V.contents err.old) (V.contents err.new) (line_end name.now (fault_text fault)) }
 {
     match fault {
         Fault::Memory => put_text(err, name, "out of memory"),
@@ -147,7 +151,8 @@ fn setting_text(setting: SettingFault) -> &'static str
 
 // Writes that end about a bad line of an index.
 fn put_bad_line<V: Buffered>(err: &mut V, name: &str, line: u32) -> bool
-    ensures { Writes result (V.contents err.old) (V.contents err.new) (line_end name.now (fault_text (Fault.BadIndex line))) }
+    ensures failed { result ≡ false → HasFailed V.counts V.failures }
+    ensures writes { Writes result (V.contents err.old) (V.contents err.new) (line_end name.now (fault_text (Fault.BadIndex line))) }
 {
     let mut digits = Buffer::new();
     err.put_through(&[
@@ -160,7 +165,8 @@ fn put_bad_line<V: Buffered>(err: &mut V, name: &str, line: u32) -> bool
 
 // Writes that end with a text.
 fn put_text<V: Buffered>(err: &mut V, name: &str, text: &str) -> bool
-    ensures { Writes result (V.contents err.old) (V.contents err.new) (line_end name.now text.now) }
+    ensures failed { result ≡ false → HasFailed V.counts V.failures }
+    ensures writes { Writes result (V.contents err.old) (V.contents err.new) (line_end name.now text.now) }
 {
     err.put_through(&[name.as_bytes(), b": ", text.as_bytes(), b"\n"])
 }

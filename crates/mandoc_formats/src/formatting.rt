@@ -3,7 +3,7 @@
 ghost use Rattle.std.specs.Prelude.{◌≡◌, ◌⊎◌, [], IfOk};
 ghost use Rattle.std.specs.Io.KnownBytes.{Consumes};
 ghost use Rattle.page_core_streams.specs.Streams.{Grows};
-ghost use Rattle.mandoc_formats.specs.Formats.{Did, File, Page, IsPage, IsReported, page_out, page_err, Formatted, IsFile, IsFound, FormatsAll, IsPutOut};
+ghost use Rattle.mandoc_formats.specs.Formats.{Did, File, HasFailed, Page, IsPage, IsReported, page_out, page_err, Formatted, IsFile, IsFound, FormatsAll, IsPutOut};
 
 use crate::faults::{Done, report_fault, report_fault_at, report_unopened};
 use crate::finding::Finds;
@@ -31,7 +31,7 @@ pub fn format_all<R: Finds, I: Read, W: Buffered, V: Buffered>(
     out: &mut W,
     err: &mut V,
 ) -> u8
-    ensures came { (file : File) × FormatsAll (R.finds rt.now) format.now.settings format.now.files (I.remaining input.old) file
+    ensures came { (file : File) × FormatsAll (R.finds rt.now) (HasFailed V.counts V.failures) format.now.settings format.now.files (I.remaining input.old) file
         × Grows (W.contents out.old) (W.contents out.new) file.out × Grows (V.contents err.old) (V.contents err.new) file.err
         × (result ≡ file.end.status) × IsPutOut result (W.waits out.new) (V.waits err.new) }
     ensures input { (format.now.files ≡ []) ⊎ (input.new ≡ input.old) }
@@ -61,7 +61,7 @@ fn format_file<R: Finds, W: Buffered, V: Buffered>(
     name: &str,
     settings: &Settings,
 ) -> Done
-    ensures { Did (IsFile (R.finds rt.now) settings.now name.now) result
+    ensures { Did (IsFile (R.finds rt.now) (HasFailed V.counts V.failures) settings.now name.now) result
         (W.contents out.old) (W.contents out.new) (V.contents err.old) (V.contents err.new) ((W.waits out.new ≡ []) × (V.waits err.new ≡ [])) }
 {
     match shown_name(alloc, name) {
@@ -80,7 +80,7 @@ fn format_named<R: Finds, W: Buffered, V: Buffered>(
     shown: &str,
     settings: &Settings,
 ) -> Done
-    ensures { Did (IsFound (R.finds rt.now) (Formatted settings.now shown.now) name.now shown.now) result
+    ensures { Did (IsFound (R.finds rt.now) (HasFailed V.counts V.failures) (Formatted (HasFailed V.counts V.failures) settings.now shown.now) name.now shown.now) result
         (W.contents out.old) (W.contents out.new) (V.contents err.old) (V.contents err.new) ((W.waits out.new ≡ []) × (V.waits err.new ≡ [])) }
 {
     match rt.find(name) {
@@ -98,7 +98,7 @@ fn format_page<I: Read, W: Buffered, V: Buffered>(
     name: &str,
     settings: &Settings,
 ) -> Done
-    ensures { Did (Formatted settings.now name.now (I.remaining input.old)) result
+    ensures { Did (Formatted (HasFailed V.counts V.failures) settings.now name.now (I.remaining input.old)) result
         (W.contents out.old) (W.contents out.new) (V.contents err.old) (V.contents err.new) ((W.waits out.new ≡ []) × (V.waits err.new ≡ [])) }
 {
     match run_waiting(alloc, input, out, err, name, settings) {

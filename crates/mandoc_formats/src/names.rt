@@ -1,8 +1,8 @@
 //! The names of files as messages have them (mandoc(1), DIAGNOSTICS).
 
-ghost use Rattle.std.specs.Prelude.{◌≡◌, IfOk, string_bytes, encode_utf8, if◌then◌else◌};
+ghost use Rattle.std.specs.Prelude.{◌≡◌, false, IfOk, string_bytes, encode_utf8, if◌then◌else◌};
 ghost use Rattle.page_core_streams.specs.laws.Views.{Writes};
-ghost use Rattle.mandoc_formats.specs.Formats.{shown};
+ghost use Rattle.mandoc_formats.specs.Formats.{HasFailed, shown};
 ghost use Rattle.mandoc_formats.specs.ShownNames.{is_hidden};
 
 use page_core_streams::Target;
@@ -24,7 +24,8 @@ pub fn shown_name(alloc: Global, name: &str) -> Result<String, AllocError>
 
 /// Writes that name with no memory of its own.
 pub fn put_name<V: Target>(err: &mut V, name: &str) -> bool
-    ensures { Writes result (V.contents err.old) (V.contents err.new) (shown name.now) }
+    ensures failed { result ≡ false → HasFailed V.counts V.failures }
+    ensures writes { Writes result (V.contents err.old) (V.contents err.new) (shown name.now) }
 {
     let mut is_written = true;
     for c in name.chars() {
@@ -37,7 +38,8 @@ pub fn put_name<V: Target>(err: &mut V, name: &str) -> bool
 
 // Writes a character.
 fn put_char<V: Target>(err: &mut V, c: char) -> bool
-    ensures { Writes result (V.contents err.old) (V.contents err.new) (encode_utf8 c) }
+    ensures failed { result ≡ false → HasFailed V.counts V.failures }
+    ensures writes { Writes result (V.contents err.old) (V.contents err.new) (encode_utf8 c) }
 {
     let mut bytes = [0; 4];
     err.put(c.encode_utf8(&mut bytes).as_bytes())

@@ -27,7 +27,8 @@ pub trait Buffered: Target {
 
     /// Puts out what waits and writes texts after it, or a front of them: no more bytes wait than before.
     fn put_through(&mut self, texts: &[&[u8]]) -> bool
-        ensures { Writes result (Self.contents self.old) (Self.contents self.new) (flat_map (λ text. text.now) texts.now) };
+        ensures failed { result ≡ false → HasFailed Self.counts Self.failures }
+        ensures writes { Writes result (Self.contents self.old) (Self.contents self.new) (flat_map (λ text. text.now) texts.now) };
 }
 
 /// A writer, and at most 4,096 bytes that wait for it.
@@ -138,6 +139,7 @@ impl<W: Write> Buffered for Waiting<W> {
         self.send() && self.out.flush().is_ok()
     }
 
+    #[tactic(auto, using(crate::proofs::Waits::uncounted))]
     fn put_through(&mut self, texts: &[&[u8]]) -> bool {
         self.send() && put_all(&mut self.out, texts)
     }

@@ -18,7 +18,7 @@ use Rattle.page_core_base.specs.declared.page_settings.Settings.{Settings as Pag
 use Rattle.page_core_base.specs.Settings.{IsGood, IsIndent}
 use Rattle.page_core_base.specs.Texts.{IsLine}
 use Rattle.std.proofs.lemmas.Str.{IsUtf8-nil}
-use Rattle.page_core_streams.specs.Streams.{Grows, GrowsInto}
+use Rattle.page_core_streams.specs.Streams.{Grows}
 use Rattle.page_engine_index.specs.declared.records.Record.{Record as PageRecord}
 use Rattle.page_core_streams.specs.laws.Views.{Grows-nil}
 use Rattle.mandoc_programs.specs.declared.pages.Tally.{Tally}
@@ -27,24 +27,25 @@ use Rattle.mandoc_programs.specs.declared.bearings.Bearing.TheVariants.{NoFault,
 use Rattle.mandoc_programs.specs.declared.pages.Form.{Form}
 use Rattle.mandoc_programs.specs.declared.pages.Form.TheVariants as form
 use Rattle.mandoc_programs.specs.Compressed.{is_compressed, is_gzip, is_xz, is_bzip2, is_zstd}
-use Rattle.mandoc_formats.specs.Formats.{line_about, line_end, shown}
+use Rattle.mandoc_formats.specs.Formats.{Tells, line_about, line_end, shown}
 use Rattle.mandoc_programs.specs.Indexes.{Ends, Index, IsAnswered, IsCompressed, IsPlain, OfUnlisted, Part, PutsIn, ReadsPage, Said, after, compressed_line, compressed_text, first_line, puts, unlisted_text}
 use Rattle.mandoc_formats.specs.Turns.{Does}
 
-pub said : (line : List ℕ) (end result : Result Tally Fault) (a c d : Option (List ℕ)) → GrowsInto c d line → result ≡ end → Does (Said line end) result a a c d
-said line end result a c d g e =
-    (record { out = []; err = g.done; end = end }, record { out = refl; err = (g.rest, g.parts); ended = refl }, Grows-nil a, g.grows, sym e)
+pub said : (failed : Type 0) (line : List ℕ) (end result : Result Tally Fault) (a c d : Option (List ℕ)) → Tells failed c d line → result ≡ end
+    → Does (Said failed line end) result a a c d
+said failed line end result a c d g e =
+    (record { out = []; err = g.part; end = end }, record { out = refl; err = g.told; ended = refl }, Grows-nil a, g.grows, sym e)
 
 pub quiet : (end result : Result Tally Fault) (a c : Option (List ℕ)) → result ≡ end → Does (Ends end) result a a c c
 quiet end result a c e =
-    (record { out = []; err = []; end = end }, record { out = refl; err = ([], refl); ended = refl }, Grows-nil a, Grows-nil c, sym e)
+    (record { out = []; err = []; end = end }, record { out = refl; err = inl refl; ended = refl }, Grows-nil a, Grows-nil c, sym e)
 
 -- a folder that can't be listed
-pub unlisted : (form : Form) (path : List ℕ) (kind : ErrorKind) (bearing : Bearing) (result : Result Tally Fault) (a c d : Option (List ℕ)) → (bearing ≡ NoFault → ⊥)
-    → GrowsInto c d (line_about (shown path) (unlisted_text kind)) → result ≡ after form bearing → Does (OfUnlisted form path kind bearing) result a a c d
-unlisted form path kind NoFault result a c d n g e = absurd (n refl)
-unlisted form path kind LeavesOut result a c d n g e = said _ (after form LeavesOut) result a c d g e
-unlisted form path kind KeepsOld result a c d n g e = said _ (after form KeepsOld) result a c d g e
+pub unlisted : (failed : Type 0) (form : Form) (path : List ℕ) (kind : ErrorKind) (bearing : Bearing) (result : Result Tally Fault) (a c d : Option (List ℕ)) → (bearing ≡ NoFault → ⊥)
+    → Tells failed c d (line_about (shown path) (unlisted_text kind)) → result ≡ after form bearing → Does (OfUnlisted failed form path kind bearing) result a a c d
+unlisted failed form path kind NoFault result a c d n g e = absurd (n refl)
+unlisted failed form path kind LeavesOut result a c d n g e = said failed _ (after form LeavesOut) result a c d g e
+unlisted failed form path kind KeepsOld result a c d n g e = said failed _ (after form KeepsOld) result a c d g e
 
 -- ---- the first bytes of a page
 

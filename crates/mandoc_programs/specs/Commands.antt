@@ -19,12 +19,12 @@ pub record Run : Type 0 where
 abbrev pub run_of : File → Run
 run_of file = record { out = file.out; err = file.err; put = []; status = file.end.status }
 
--- pages to format are found among all files, and an index that is searched among those that are no device and no pipe
-abbrev pub IsRun : (finds finds_regular : List ℕ → Option (Option (List ℕ)) → Type 0) → (sees : List ℕ → Sight → Type 0) → Command → (input : Option (List ℕ)) → Run → Type 0
-IsRun finds finds_regular sees (Format format) input run = (file : File) × FormatsAll finds format.settings format.files input file × (run ≡ run_of file)
-IsRun finds finds_regular sees (Makewhatis asked) input run = (all : Came Makes) × MakesAll sees (indexes_of asked) all
+-- messages go to what may have failed; pages to format are found among all files, and an index that is searched among those that are no device and no pipe
+abbrev pub IsRun : (finds finds_regular : List ℕ → Option (Option (List ℕ)) → Type 0) → (sees : List ℕ → Sight → Type 0) → (failed : Type 0) → Command → (input : Option (List ℕ)) → Run → Type 0
+IsRun finds finds_regular sees failed (Format format) input run = (file : File) × FormatsAll finds failed format.settings format.files input file × (run ≡ run_of file)
+IsRun finds finds_regular sees failed (Makewhatis asked) input run = (all : Came Makes) × MakesAll sees failed (indexes_of asked) all
     × (run ≡ record { out = all.out; err = all.err; put = all.end.put; status = all.end.done.status })
-IsRun finds finds_regular sees (Whatis asked) input run = (file : File) × SearchesFor finds_regular (searches_of asked) file × (run ≡ run_of file)
+IsRun finds finds_regular sees failed (Whatis asked) input run = (file : File) × SearchesFor finds_regular failed (searches_of asked) file × (run ≡ run_of file)
 
 -- the standard input is read by a page that has no file
 abbrev pub ReadsInput : Command → Type 0

@@ -28,7 +28,7 @@ use Rattle.mandoc_programs.specs.declared.pages.Form.TheVariants as form
 use Rattle.mandoc_programs.specs.declared.pages.Tally.{Tally}
 use Rattle.mandoc_programs.specs.Bearings.{bearing_of_file, bearing_of_folder, bearing_of_page}
 use Rattle.mandoc_programs.specs.Compressed.{is_compressed}
-use Rattle.mandoc_formats.specs.Formats.{Front, fault_line, line_about, shown, stops_after, unopened_line}
+use Rattle.mandoc_formats.specs.Formats.{Front, Told, fault_line, line_about, shown, stops_after, unopened_line}
 use Rattle.mandoc_programs.specs.Sights.{Sight, is_dir, listed, opened}
 use Rattle.mandoc_formats.specs.Turns.{Came, InTurn, worse}
 
@@ -65,14 +65,14 @@ nothing = record { out = []; err = []; end = with 0 }
 abbrev pub PartsOf : (is : List ℕ → Part → Type 0) → List (List ℕ) → Part → Type 0
 PartsOf is names part = InTurn and_so is_fault is names nothing part
 
--- nothing came to the output, and beside it a line, or a front of it
-pub record Said (line : List ℕ) (end : Result Tally Fault) (part : Part) : Type 0 where
+-- nothing came to the output, and beside it a line; or a front of it, where that failed
+pub record Said (failed : Type 0) (line : List ℕ) (end : Result Tally Fault) (part : Part) : Type 0 where
   pub out : part.out ≡ []
-  pub err : Front part.err line
+  pub err : Told failed part.err line
   pub ended : part.end ≡ end
 
 abbrev pub Ends : Result Tally Fault → Part → Type 0
-Ends = Said []
+Ends = Said ⊥ []
 
 -- what a fault that was reported means: where the index has to stay as it was, it can't be written; else the next page follows
 abbrev pub after : Form → Bearing → Result Tally Fault
@@ -123,20 +123,20 @@ pub record Gives (entry : List ℕ) (part : Part) : Type 0 where
   pub out : ((part.out ≡ entry) × (part.end ≡ with 0)) ⊎ (Front part.out entry × (part.end ≡ Err fault.WriteText))
 
 -- what came of what was found in a page; what can't be read is reported by its path
-abbrev pub OfFound : Form → (path file : List ℕ) → Result Found Fault → Part → Type 0
-OfFound form path file (Ok found.Compressed) = Ends (Ok (record { status = 0; compressed = 1 }))
-OfFound form path file (Ok found.Nothing) = Ends (with 0)
-OfFound form path file (Ok (found.Record page)) = Gives (entry_by form file page)
-OfFound form path file (Err why) = Said (fault_line (shown path) why) (after form (bearing_of_page why))
+abbrev pub OfFound : (failed : Type 0) → Form → (path file : List ℕ) → Result Found Fault → Part → Type 0
+OfFound failed form path file (Ok found.Compressed) = Ends (Ok (record { status = 0; compressed = 1 }))
+OfFound failed form path file (Ok found.Nothing) = Ends (with 0)
+OfFound failed form path file (Ok (found.Record page)) = Gives (entry_by form file page)
+OfFound failed form path file (Err why) = Said failed (fault_line (shown path) why) (after form (bearing_of_page why))
 
-abbrev pub OfPage : Form → (path file : List ℕ) → Option (List ℕ) → Part → Type 0
-OfPage form path file before part = (found : Result Found Fault) × IsFoundIn before found × OfFound form path file found part
+abbrev pub OfPage : (failed : Type 0) → Form → (path file : List ℕ) → Option (List ℕ) → Part → Type 0
+OfPage failed form path file before part = (found : Result Found Fault) × IsFoundIn before found × OfFound failed form path file found part
 
 -- of a file that can't be opened, of what is no file, and of a page
-abbrev pub OfOpened : Form → (path file : List ℕ) → Result (Option (Option (List ℕ))) (Option ℤ) → Part → Type 0
-OfOpened form path file (Err number) part = Said (unopened_line (shown path)) (after form (bearing_of_file number)) part
-OfOpened form path file (Ok None) part = Ends (with 0) part
-OfOpened form path file (Ok (Some before)) part = OfPage form path file before part
+abbrev pub OfOpened : (failed : Type 0) → Form → (path file : List ℕ) → Result (Option (Option (List ℕ))) (Option ℤ) → Part → Type 0
+OfOpened failed form path file (Err number) part = Said failed (unopened_line (shown path)) (after form (bearing_of_file number)) part
+OfOpened failed form path file (Ok None) part = Ends (with 0) part
+OfOpened failed form path file (Ok (Some before)) part = OfPage failed form path file before part
 
 -- ---- a directory
 
@@ -145,14 +145,14 @@ unlisted_text kind.OutOfMemory = codes "out of memory"
 unlisted_text _ = codes "cannot open"
 
 -- of a folder that can't be listed: nothing is said of one that is missing
-abbrev pub OfUnlisted : Form → (path : List ℕ) → ErrorKind → Bearing → Part → Type 0
-OfUnlisted form path why NoFault = Ends (with 0)
-OfUnlisted form path why bearing = Said (line_about (shown path) (unlisted_text why)) (after form bearing)
+abbrev pub OfUnlisted : (failed : Type 0) → Form → (path : List ℕ) → ErrorKind → Bearing → Part → Type 0
+OfUnlisted failed form path why NoFault = Ends (with 0)
+OfUnlisted failed form path why bearing = Said failed (line_about (shown path) (unlisted_text why)) (after form bearing)
 
-module _ (sees : List ℕ → Sight → Type 0) (form : Form) (dir : List ℕ) where
+module _ (sees : List ℕ → Sight → Type 0) (failed : Type 0) (form : Form) (dir : List ℕ) where
   -- of a file that is opened
   abbrev pub IsOpened : (file path : List ℕ) → Part → Type 0
-  IsOpened file path part = (found : _) × sees path (opened found) × OfOpened form path file found part
+  IsOpened file path part = (found : _) × sees path (opened found) × OfOpened failed form path file found part
 
   -- of a file below it; one whose name can't be in an index is passed over
   abbrev pub IsNamed : (file : List ℕ) → Part → Type 0
@@ -164,7 +164,7 @@ module _ (sees : List ℕ → Sight → Type 0) (form : Form) (dir : List ℕ) w
 
   -- of a folder that can't be listed; or of its files, in the order of the bytes of their names
   abbrev pub OfListed : (folder path : List ℕ) → Result (List (List ℕ)) ErrorKind → Part → Type 0
-  OfListed folder path (Err why) part = OfUnlisted form path why (bearing_of_folder why) part
+  OfListed folder path (Err why) part = OfUnlisted failed form path why (bearing_of_folder why) part
   OfListed folder path (Ok names) part = (sorted : List (List ℕ)) × IsPermutation names sorted × IsSorted (slice_cmp nat_cmp) sorted
       × PartsOf (IsPage folder) sorted part
 
@@ -190,11 +190,11 @@ compressed_in name (Ok tally) = compressed_line name tally.compressed
 compressed_in name (Err why) = []
 
 -- of all folders, and of the pages that are compressed
-pub record IsAll (sees : List ℕ → Sight → Type 0) (form : Form) (dir : List ℕ) (part : Part) : Type 0 where
+pub record IsAll (sees : List ℕ → Sight → Type 0) (failed : Type 0) (form : Form) (dir : List ℕ) (part : Part) : Type 0 where
   pub pages : Part
-  pub are : PartsOf (IsFolder sees form dir) folders pages
+  pub are : PartsOf (IsFolder sees failed form dir) folders pages
   pub line : List ℕ
-  pub is_line : Front line (compressed_in (shown dir) pages.end)
+  pub is_line : Told failed line (compressed_in (shown dir) pages.end)
   pub out : part.out ≡ pages.out
   pub err : part.err ≡ pages.err ++ line
   pub end : part.end ≡ pages.end
@@ -224,9 +224,9 @@ PutsIn true before after begun contents =
 PutsIn false before after begun contents = Grows before after []
 
 -- what was done with the pages of a directory: all were given; or an index was not begun
-abbrev pub Began : (sees : List ℕ → Sight → Type 0) → Form → (dir : List ℕ) → Part → Type 0
-Began sees form.Printed dir part = IsAll sees form.Printed dir part
-Began sees form.Index dir part = IsAll sees form.Index dir part ⊎ (Ends (Err fault.Memory) part ⊎ Ends (Err fault.WriteText) part)
+abbrev pub Began : (sees : List ℕ → Sight → Type 0) → (failed : Type 0) → Form → (dir : List ℕ) → Part → Type 0
+Began sees failed form.Printed dir part = IsAll sees failed form.Printed dir part
+Began sees failed form.Index dir part = IsAll sees failed form.Index dir part ⊎ (Ends (Err fault.Memory) part ⊎ Ends (Err fault.WriteText) part)
 
 -- entries that are printed come to the output; an index that is whole takes its name, else the old one stays
 abbrev pub out_by : Form → Part → List ℕ
@@ -242,35 +242,36 @@ abbrev pub tail : Form → List ℕ
 tail form.Printed = []
 tail form.Index = codes "/whatis.idx"
 
-abbrev pub Reported : (name : List ℕ) → Result Tally Fault → (line : List ℕ) → Done → Type 0
-Reported name (Ok tally) line done = (line ≡ []) × (done ≡ record { status = tally.status; stops = false })
-Reported name (Err why) line done = Front line (fault_line name why) × (done ≡ record { status = 6; stops = stops_after why })
+abbrev pub Reported : (failed : Type 0) → (name : List ℕ) → Result Tally Fault → (line : List ℕ) → Done → Type 0
+Reported failed name (Ok tally) line done = (line ≡ []) × (done ≡ record { status = tally.status; stops = false })
+Reported failed name (Err why) line done = Told failed line (fault_line name why) × (done ≡ record { status = 6; stops = stops_after why })
 
 -- what a directory left, and the indexes that took their names
 pub record Makes : Type 0 where
   pub done : Done
   pub put : List Index
 
-pub record MakesOf (sees : List ℕ → Sight → Type 0) (form : Form) (dir : List ℕ) (came : Came Makes) : Type 0 where
+pub record MakesOf (sees : List ℕ → Sight → Type 0) (failed : Type 0) (form : Form) (dir : List ℕ) (came : Came Makes) : Type 0 where
   pub part : Part
-  pub is : Began sees form dir part
+  pub is : Began sees failed form dir part
   pub result : Result Tally Fault
   pub answered : IsAnswered part.end result
   pub out : came.out ≡ out_by form part
   pub line : List ℕ
   pub err : came.err ≡ part.err ++ line
-  pub told : Reported (shown dir ++ tail form) result line came.end.done
+  pub told : Reported failed (shown dir ++ tail form) result line came.end.done
   pub put : came.end.put ≡ puts form dir part result
 
 -- there is no such directory
-pub record NoDir (dir : List ℕ) (came : Came Makes) : Type 0 where
+pub record NoDir (failed : Type 0) (dir : List ℕ) (came : Came Makes) : Type 0 where
   pub out : came.out ≡ []
-  pub err : Front came.err (unopened_line (shown dir))
+  pub err : Told failed came.err (unopened_line (shown dir))
   pub end : came.end ≡ record { done = record { status = 6; stops = false }; put = [] }
 
-abbrev pub IsDir : (sees : List ℕ → Sight → Type 0) → Form → (name : List ℕ) → Came Makes → Type 0
-IsDir sees form.Printed name came = (sees name (is_dir false) × NoDir name came) ⊎ (sees name (is_dir true) × MakesOf sees form.Printed name came)
-IsDir sees form.Index name came = MakesOf sees form.Index name came
+abbrev pub IsDir : (sees : List ℕ → Sight → Type 0) → (failed : Type 0) → Form → (name : List ℕ) → Came Makes → Type 0
+IsDir sees failed form.Printed name came =
+    (sees name (is_dir false) × NoDir failed name came) ⊎ (sees name (is_dir true) × MakesOf sees failed form.Printed name came)
+IsDir sees failed form.Index name came = MakesOf sees failed form.Index name came
 
 -- ---- a command
 
@@ -291,5 +292,5 @@ abbrev pub form_of : Bool → Form
 form_of true = form.Printed
 form_of false = form.Index
 
-abbrev pub MakesAll : (sees : List ℕ → Sight → Type 0) → Wanted → Came Makes → Type 0
-MakesAll sees wanted = InTurn so stops_making (IsDir sees (form_of wanted.prints)) wanted.dirs (record { out = []; err = []; end = none_made })
+abbrev pub MakesAll : (sees : List ℕ → Sight → Type 0) → (failed : Type 0) → Wanted → Came Makes → Type 0
+MakesAll sees failed wanted = InTurn so stops_making (IsDir sees failed (form_of wanted.prints)) wanted.dirs (record { out = []; err = []; end = none_made })

@@ -10,7 +10,7 @@ use Rattle.page_engine_index.specs.Whatis.{Asked}
 use Rattle.page_engine_index.specs.declared.queries.Show.{Show}
 use Rattle.page_engine_index.specs.declared.queries.Show.TheVariants as show
 use Rattle.mandoc_command.specs.Line.{Searches as Wanted}
-use Rattle.mandoc_formats.specs.Formats.{File, Front, IsFound, Unnamed, fault_line, shown}
+use Rattle.mandoc_formats.specs.Formats.{File, IsFound, Told, Unnamed, fault_line, shown}
 
 -- ---- rows
 
@@ -51,7 +51,7 @@ abbrev pub IsAnswered : Result ℕ Fault → Result ℕ Fault → Type 0
 IsAnswered end result = (end ≡ result) ⊎ (IsOk end × (result ≡ Err WriteText))
 
 -- an index was searched, and its fault reported; no row was found, or some were
-pub record Searched (asked : Asked) (name : List ℕ) (before : Option (List ℕ)) (file : File) : Type 0 where
+pub record Searched (failed : Type 0) (asked : Asked) (name : List ℕ) (before : Option (List ℕ)) (file : File) : Type 0 where
   pub search : Search
   pub is : IsOf asked search
   pub read : Consumes before search.left search.bytes
@@ -60,7 +60,7 @@ pub record Searched (asked : Asked) (name : List ℕ) (before : Option (List ℕ
   pub out : file.out ≡ search.rows
   pub told : MatchResult result
       (λ count. (file.err ≡ []) × (file.end.status ≡ (if count == 0 then 1 else 0)))
-      (λ fault. Front file.err (fault_line name fault) × (file.end.status ≡ 6))
+      (λ fault. Told failed file.err (fault_line name fault) × (file.end.status ≡ 6))
 
 -- ---- a command
 
@@ -72,9 +72,10 @@ abbrev pub index_in : List ℕ → List ℕ
 index_in dir = dir ++ codes "/whatis.idx"
 
 -- what came of the index of a directory
-abbrev pub IsSearch : (finds : List ℕ → Option (Option (List ℕ)) → Type 0) → (dir : List ℕ) → Asked → File → Type 0
-IsSearch finds dir asked file = let name = index_in (shown dir) in Unnamed name file ⊎ IsFound finds (Searched asked name) (index_in dir) name file
+abbrev pub IsSearch : (finds : List ℕ → Option (Option (List ℕ)) → Type 0) → (failed : Type 0) → (dir : List ℕ) → Asked → File → Type 0
+IsSearch finds failed dir asked file =
+    let name = index_in (shown dir) in Unnamed failed name file ⊎ IsFound finds failed (Searched failed asked name) (index_in dir) name file
 
 -- no directory: the current one
-abbrev pub SearchesFor : (finds : List ℕ → Option (Option (List ℕ)) → Type 0) → Wanted → File → Type 0
-SearchesFor finds wanted = IsSearch finds (unwrap_or wanted.dir (codes ".")) (asked_by wanted)
+abbrev pub SearchesFor : (finds : List ℕ → Option (Option (List ℕ)) → Type 0) → (failed : Type 0) → Wanted → File → Type 0
+SearchesFor finds failed wanted = IsSearch finds failed (unwrap_or wanted.dir (codes ".")) (asked_by wanted)

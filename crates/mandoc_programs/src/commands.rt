@@ -27,7 +27,7 @@ pub fn run_command<F: Finds, R: Finds + Folders, P: IndexPlaces, I: Read, W: Buf
     out: &mut W,
     err: &mut V,
 ) -> u8
-    ensures came { (run : Run) × IsRun (F.finds files.now) (R.finds regular.now) (R.sees regular.now) command.now (I.remaining input.old) run
+    ensures came { (run : Run) × IsRun (F.finds files.now) (R.finds regular.now) (R.sees regular.now) (HasFailed V.counts V.failures) command.now (I.remaining input.old) run
         × Grows (W.contents out.old) (W.contents out.new) run.out × Grows (V.contents err.old) (V.contents err.new) run.err
         × Grows (P.put places.old) (P.put places.new) run.put × (result ≡ run.status) }
     ensures put_out { W.waits out.old ≡ [] → result < 6 → W.waits out.new ≡ [] }

@@ -5,6 +5,7 @@ ghost use Rattle.page_core_streams.specs.Streams.{Grows, GrowsInto};
 ghost use Rattle.page_engine_index.specs.Fields.{is_field};
 ghost use Rattle.mandoc_programs.specs.Bearings.{bearing_of_folder};
 ghost use Rattle.mandoc_programs.specs.Indexes.{Gives, IsAll, IsFolder, IsListed, IsNamed, IsOpened, IsPage, OfListed, OfPage, OfUnlisted, PartsOf, after, below, entry_by, unlisted_text};
+ghost use Rattle.mandoc_formats.specs.Formats.{HasFailed};
 ghost use Rattle.mandoc_formats.specs.Turns.{Does};
 
 use crate::bearings::{Bearing, bearing_of_file, bearing_of_folder, bearing_of_page};
@@ -85,7 +86,7 @@ impl<R: Folders> Pages<'_, R> {
         out: &mut W,
         err: &mut V,
     ) -> Result<Tally, Fault>
-        ensures { Does (IsAll (R.sees self.now.files.now) self.now.form self.now.dir.now) result
+        ensures { Does (IsAll (R.sees self.now.files.now) (HasFailed V.counts V.failures) self.now.form self.now.dir.now) result
             (W.contents out.old) (W.contents out.new) (V.contents err.old) (V.contents err.new) }
     {
         let given = self.give_folders(&FOLDERS, out, err);
@@ -100,7 +101,7 @@ impl<R: Folders> Pages<'_, R> {
         out: &mut W,
         err: &mut V,
     ) -> Result<Tally, Fault>
-        ensures { Does (PartsOf (IsFolder (R.sees self.now.files.now) self.now.form self.now.dir.now) (map (λ folder. folder.now) folders.now)) result
+        ensures { Does (PartsOf (IsFolder (R.sees self.now.files.now) (HasFailed V.counts V.failures) self.now.form self.now.dir.now) (map (λ folder. folder.now) folders.now)) result
             (W.contents out.old) (W.contents out.new) (V.contents err.old) (V.contents err.new) }
     {
         let mut tally = Tally::with(0);
@@ -120,7 +121,7 @@ impl<R: Folders> Pages<'_, R> {
         out: &mut W,
         err: &mut V,
     ) -> Result<Tally, Fault>
-        ensures { Does (IsFolder (R.sees self.now.files.now) self.now.form self.now.dir.now folder.now) result
+        ensures { Does (IsFolder (R.sees self.now.files.now) (HasFailed V.counts V.failures) self.now.form self.now.dir.now folder.now) result
             (W.contents out.old) (W.contents out.new) (V.contents err.old) (V.contents err.new) }
     {
         match below(self.alloc, self.dir, folder) {
@@ -137,7 +138,7 @@ impl<R: Folders> Pages<'_, R> {
         out: &mut W,
         err: &mut V,
     ) -> Result<Tally, Fault>
-        ensures { Does (IsListed (R.sees self.now.files.now) self.now.form self.now.dir.now folder.now path.now) result
+        ensures { Does (IsListed (R.sees self.now.files.now) (HasFailed V.counts V.failures) self.now.form self.now.dir.now folder.now path.now) result
             (W.contents out.old) (W.contents out.new) (V.contents err.old) (V.contents err.new) }
     {
         match self.files.list(self.alloc, path) {
@@ -154,7 +155,7 @@ impl<R: Folders> Pages<'_, R> {
         out: &mut W,
         err: &mut V,
     ) -> Result<Tally, Fault>
-        ensures { (path : List ℕ) → Does (OfListed (R.sees self.now.files.now) self.now.form self.now.dir.now folder.now path (Ok (map string_bytes names.items))) result
+        ensures { (path : List ℕ) → Does (OfListed (R.sees self.now.files.now) (HasFailed V.counts V.failures) self.now.form self.now.dir.now folder.now path (Ok (map string_bytes names.items))) result
             (W.contents out.old) (W.contents out.new) (V.contents err.old) (V.contents err.new) }
     {
         let mut names = names;
@@ -170,7 +171,7 @@ impl<R: Folders> Pages<'_, R> {
         out: &mut W,
         err: &mut V,
     ) -> Result<Tally, Fault>
-        ensures { Does (PartsOf (IsPage (R.sees self.now.files.now) self.now.form self.now.dir.now folder.now) (map string_bytes names.now)) result
+        ensures { Does (PartsOf (IsPage (R.sees self.now.files.now) (HasFailed V.counts V.failures) self.now.form self.now.dir.now folder.now) (map string_bytes names.now)) result
             (W.contents out.old) (W.contents out.new) (V.contents err.old) (V.contents err.new) }
     {
         let mut tally = Tally::with(0);
@@ -191,7 +192,7 @@ impl<R: Folders> Pages<'_, R> {
         out: &mut W,
         err: &mut V,
     ) -> Result<Tally, Fault>
-        ensures { Does (IsPage (R.sees self.now.files.now) self.now.form self.now.dir.now folder.now name.now) result
+        ensures { Does (IsPage (R.sees self.now.files.now) (HasFailed V.counts V.failures) self.now.form self.now.dir.now folder.now name.now) result
             (W.contents out.old) (W.contents out.new) (V.contents err.old) (V.contents err.new) }
     {
         match below(self.alloc, folder, name) {
@@ -207,7 +208,7 @@ impl<R: Folders> Pages<'_, R> {
         out: &mut W,
         err: &mut V,
     ) -> Result<Tally, Fault>
-        ensures { Does (IsNamed (R.sees self.now.files.now) self.now.form self.now.dir.now file.now) result
+        ensures { Does (IsNamed (R.sees self.now.files.now) (HasFailed V.counts V.failures) self.now.form self.now.dir.now file.now) result
             (W.contents out.old) (W.contents out.new) (V.contents err.old) (V.contents err.new) }
     {
         if !is_field(file) {
@@ -228,7 +229,7 @@ impl<R: Folders> Pages<'_, R> {
         err: &mut V,
     ) -> Result<Tally, Fault>
         requires { is_field file.now ≡ true }
-        ensures { Does (IsOpened (R.sees self.now.files.now) self.now.form self.now.dir.now file.now path.now) result
+        ensures { Does (IsOpened (R.sees self.now.files.now) (HasFailed V.counts V.failures) self.now.form self.now.dir.now file.now path.now) result
             (W.contents out.old) (W.contents out.new) (V.contents err.old) (V.contents err.new) }
     {
         match self.files.open(path) {
@@ -251,7 +252,7 @@ impl<R: Folders> Pages<'_, R> {
         err: &mut V,
     ) -> Result<Tally, Fault>
         requires { is_field file.now ≡ true }
-        ensures { Does (OfPage self.now.form path.now file.now (I.remaining input.old)) result
+        ensures { Does (OfPage (HasFailed V.counts V.failures) self.now.form path.now file.now (I.remaining input.old)) result
             (W.contents out.old) (W.contents out.new) (V.contents err.old) (V.contents err.new) }
     {
         match find_record(self.alloc, input) {
@@ -306,7 +307,7 @@ fn report_unlisted<V: Buffered>(
     kind: ErrorKind,
     err: &mut V,
 ) -> Result<Tally, Fault>
-    ensures { (out : Option (List ℕ)) → Does (OfUnlisted form path.now kind (bearing_of_folder kind)) result
+    ensures { (out : Option (List ℕ)) → Does (OfUnlisted (HasFailed V.counts V.failures) form path.now kind (bearing_of_folder kind)) result
         out out (V.contents err.old) (V.contents err.new) }
 {
     match bearing_of_folder(kind) {

@@ -6,7 +6,7 @@ ghost use Rattle.page_core_streams.specs.Streams.{Grows};
 ghost use Rattle.page_engine_index.specs.Searches.{Searches};
 ghost use Rattle.page_engine_index.specs.Whatis.{asked};
 ghost use Rattle.mandoc_command.specs.Line.{searches_of};
-ghost use Rattle.mandoc_formats.specs.Formats.{Did, File, IsFound, shown};
+ghost use Rattle.mandoc_formats.specs.Formats.{Did, File, HasFailed, IsFound, shown};
 ghost use Rattle.mandoc_programs.specs.Searches.{IsOf, IsSearch, IsAnswered, Search, Searched, SearchesFor, asked_by, index_in, prints};
 
 use crate::shown_rows::ShownRows;
@@ -40,7 +40,7 @@ pub fn search<R: Finds, W: Buffered, V: Buffered>(
     out: &mut W,
     err: &mut V,
 ) -> u8
-    ensures came { (file : File) × SearchesFor (R.finds rt.now) (searches_of asked.now) file
+    ensures came { (file : File) × SearchesFor (R.finds rt.now) (HasFailed V.counts V.failures) (searches_of asked.now) file
         × Grows (W.contents out.old) (W.contents out.new) file.out × Grows (V.contents err.old) (V.contents err.new) file.err
         × (result ≡ file.end.status) }
     ensures put_out { result < 6 → (W.waits out.new ≡ []) × (err.new ≡ err.old) }
@@ -60,7 +60,7 @@ fn search_in<R: Finds, W: Buffered, V: Buffered>(
     out: &mut W,
     err: &mut V,
 ) -> Done
-    ensures { Did (IsSearch (R.finds rt.now) dir.now (asked_by (searches_of asked.now))) result
+    ensures { Did (IsSearch (R.finds rt.now) (HasFailed V.counts V.failures) dir.now (asked_by (searches_of asked.now))) result
         (W.contents out.old) (W.contents out.new) (V.contents err.old) (V.contents err.new) ((W.waits out.new ≡ []) × (err.new ≡ err.old)) }
 {
     match names_of_index(alloc, dir) {
@@ -98,7 +98,7 @@ fn search_named<R: Finds, W: Buffered, V: Buffered>(
     out: &mut W,
     err: &mut V,
 ) -> Done
-    ensures { Did (IsFound (R.finds rt.now) (Searched (asked_by (searches_of asked.now)) shown.now) name.now shown.now) result
+    ensures { Did (IsFound (R.finds rt.now) (HasFailed V.counts V.failures) (Searched (HasFailed V.counts V.failures) (asked_by (searches_of asked.now)) shown.now) name.now shown.now) result
         (W.contents out.old) (W.contents out.new) (V.contents err.old) (V.contents err.new) ((W.waits out.new ≡ []) × (err.new ≡ err.old)) }
 {
     match rt.find(name) {
@@ -116,7 +116,7 @@ fn search_found<I: Read, W: Buffered, V: Buffered>(
     out: &mut W,
     err: &mut V,
 ) -> Done
-    ensures { Did (Searched (asked_by (searches_of asked.now)) shown.now (I.remaining index.old)) result
+    ensures { Did (Searched (HasFailed V.counts V.failures) (asked_by (searches_of asked.now)) shown.now (I.remaining index.old)) result
         (W.contents out.old) (W.contents out.new) (V.contents err.old) (V.contents err.new) ((W.waits out.new ≡ []) × (err.new ≡ err.old)) }
 {
     match print_waiting(alloc, index, asked, out) {

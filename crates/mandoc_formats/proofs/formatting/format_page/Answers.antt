@@ -33,7 +33,7 @@ returns-in-Err g c =
     let kind = c.args.settings.now.output in
     let f = c.report_fault in
     let line = f.ensures.line in (
-      record { out = page_out kind r.0; err = page_err kind r.0 ++ line.done; end = f.result },
+      record { out = page_out kind r.0; err = page_err kind r.0 ++ line.part; end = f.result },
       record {
         page = r.0;
         is = r.1;
@@ -41,10 +41,10 @@ returns-in-Err g c =
         result = Err c.in-Err.fault;
         ended = subst (λ (x : Result Outcome Fault). IsReported r.0.end x) c.in-Err.is r.3;
         out = refl;
-        told = ((line.done, refl, (line.rest, line.parts)), f.ensures.status, f.ensures.stops);
+        told = ((line.part, refl, line.told), f.ensures.status, f.ensures.stops);
       },
       r.4,
-      Grows-append _ _ _ _ line.done r.5 line.grows,
+      Grows-append _ _ _ _ line.part r.5 line.grows,
       refl,
       none_below _ _ f.ensures.status,
     )

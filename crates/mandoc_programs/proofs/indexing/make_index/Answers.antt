@@ -1,8 +1,8 @@
 use Rattle.std.proofs.Common.{[], ◌++◌, refl, subst}
 use Rattle.page_core_streams.specs.laws.Views.{Grows-append}
+use Rattle.mandoc_formats.specs.Formats.{HasFailed, shown}
 use Rattle.mandoc_programs.specs.declared.pages.Form.{Form}
 use Rattle.mandoc_programs.specs.declared.pages.Form.TheVariants.{Index}
-use Rattle.mandoc_formats.specs.Formats.{shown}
 use Rattle.mandoc_programs.specs.Indexes.{Makes, Reported, puts, tail}
 use Rattle.mandoc_programs.proofs.indexing.make_index.Goals as goal
 
@@ -13,7 +13,7 @@ returns-clause-came g c =
     let dir = c.args.pages.now.dir.now in
     let result = c.put_index-made.result in
     let end : Makes = record { done = c.report_end.result; put = puts Index dir h.0 result } in
-    let told = subst (λ (f : Form). Reported (shown dir ++ tail f) result r.0 c.report_end.result) c.requires r.2 in (
+    let told = subst (λ (f : Form). Reported (HasFailed g.V.Target.counts g.V.Target.failures) (shown dir ++ tail f) result r.0 c.report_end.result) c.requires r.2 in (
       end,
       (
         record { out = []; err = h.0.err ++ r.0; end = end },

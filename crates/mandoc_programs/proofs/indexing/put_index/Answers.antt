@@ -9,7 +9,7 @@ returns-in-Ok-Some g c = let h = c.finish_index.ensures in (h.0, h.1, h.2, h.3, 
 pub returns-in-Ok-None : goal.returns-in-Ok-None
 returns-in-Ok-None g c = (
   record { out = []; err = []; end = Err WriteText },
-  inr (inr (record { out = refl; err = ([], refl); ended = refl })),
+  inr (inr (record { out = refl; err = inl refl; ended = refl })),
   inl refl,
   Grows-nil _,
   c.begin.ensures.same,
@@ -18,7 +18,7 @@ returns-in-Ok-None g c = (
 pub returns-in-Err : goal.returns-in-Err
 returns-in-Err g c = (
   record { out = []; err = []; end = Err Memory },
-  inr (inl (record { out = refl; err = ([], refl); ended = refl })),
+  inr (inl (record { out = refl; err = inl refl; ended = refl })),
   inl refl,
   Grows-nil _,
   c.begin.ensures.same,

@@ -30,7 +30,7 @@ returns-in-Err g c =
     let r = c.print_waiting.ensures.ran in
     let f = c.report_fault in
     let line = f.ensures.line in (
-      record { out = r.0.rows; err = line.done; end = f.result },
+      record { out = r.0.rows; err = line.part; end = f.result },
       record {
         search = r.0;
         is = r.1;
@@ -38,7 +38,7 @@ returns-in-Err g c =
         result = Err c.in-Err.fault;
         ended = subst (λ (x : Result ℕ Fault). IsAnswered r.0.end x) c.in-Err.is r.3;
         out = refl;
-        told = ((line.rest, line.parts), f.ensures.status);
+        told = (line.told, f.ensures.status);
       },
       r.4,
       line.grows,

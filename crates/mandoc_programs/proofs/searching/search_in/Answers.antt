@@ -6,5 +6,5 @@ pub returns-in-Err : goal.returns-in-Err
 returns-in-Err g c =
     let r = c.report_fault_at in
     let line = r.ensures.line in
-    reported _ r.result _ _ _ _ _ line
-    (inl (record { out = refl; err = (line.rest, line.parts); status = r.ensures.status; goes_on = r.ensures.stops })) r.ensures.status
+    reported _ r.result _ _ _ _ _ _ line
+    (inl (record { out = refl; err = line.told; status = r.ensures.status; goes_on = r.ensures.stops })) r.ensures.status

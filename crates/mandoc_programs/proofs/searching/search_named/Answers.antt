@@ -6,7 +6,7 @@ pub returns-in-None : goal.returns-in-None
 returns-in-None g c =
     let r = c.report_unopened in
     let line = r.ensures.line in
-    reported _ r.result _ _ _ _ _ line (inl (
+    reported _ r.result _ _ _ _ _ _ line (inl (
       rw c.in-None.is at c.find.ensures,
-      record { out = refl; err = (line.rest, line.parts); status = r.ensures.status; goes_on = r.ensures.goes_on },
+      record { out = refl; err = line.told; status = r.ensures.status; goes_on = r.ensures.goes_on },
     )) r.ensures.status

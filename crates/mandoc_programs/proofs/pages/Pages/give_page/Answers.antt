@@ -1,8 +1,7 @@
 use Rattle.std.proofs.Common.{ℕ, List, Ok, Err, refl, ap, ◌∙◌, subst, append-nil}
-use Rattle.page_core_streams.specs.Streams.{GrowsInto}
 use Rattle.mandoc_programs.specs.declared.page_records.Found.TheVariants as found
 use Rattle.mandoc_programs.specs.Bearings.{bearing_of_page}
-use Rattle.mandoc_formats.specs.Formats.{fault_line, shown}
+use Rattle.mandoc_formats.specs.Formats.{HasFailed, Tells, fault_line, shown}
 use Rattle.mandoc_programs.specs.Indexes.{after, with}
 use Rattle.mandoc_programs.proofs.Parts.{quiet, said}
 use Rattle.mandoc_programs.proofs.pages.Pages.give_page.Goals as goal
@@ -31,8 +30,8 @@ returns-in-Err g c =
     let a = g.V.Target.contents c.args.err.now in
     let b = g.V.Target.contents c.report_fault_at.new.err in
     let name = shown c.args.path.now in
-    let line = subst (λ (n : List ℕ). GrowsInto a b (fault_line n why)) (append-nil name) c.report_fault_at.ensures.line in
+    let line = subst (λ (n : List ℕ). Tells (HasFailed g.V.Target.counts g.V.Target.failures) a b (fault_line n why)) (append-nil name) c.report_fault_at.ensures.line in
     let form = c.args.self.now.form in
     let end = c.after.ensures ∙ ap (after form) c.bearing_of_page.ensures in
-    let h = said (fault_line name why) (after form (bearing_of_page why)) c.after.result (g.W.Target.contents c.args.out.now) a b line end in
+    let h = said _ (fault_line name why) (after form (bearing_of_page why)) c.after.result (g.W.Target.contents c.args.out.now) a b line end in
     (h.0, (Err why, c.in-Err.ensures, h.1), h.2, h.3, h.4)
