@@ -34,7 +34,7 @@ check:
 	@docs/check
 	@tools/gate
 
-# The edits that the gate leaves out, of the crates that CRATES names, or of all: the prover must refuse each.
+# The edits that the gate leaves out and of which no verdict is kept that still holds, of the crates that CRATES names, or of all: a clause must refuse each.
 edits:
 	@tools/edits $(CRATES)
 

@@ -25,12 +25,14 @@ def with_used(names):
     return found
 
 
-def fill(room, names, edited=()):
-    """Copies crates to an empty folder, with the edits of `edits/` for those that are named so, and without any other."""
+def fill(room, names, edits=()):
+    """Copies crates to an empty folder, with some of the edits of `edits/`, each as its crate and its file, and without any other."""
     with open(f"{room}/crates.txt", "w", encoding="utf-8") as file:
         file.writelines(line for name, line in lines().items() if name in names)
     shutil.copy(f"{TOP}/HANDLES", room)
     for name in names:
         shutil.copytree(f"{TOP}/crates/{name}", f"{room}/crates/{name}", ignore=shutil.ignore_patterns("out", "must-fail"))
-        if name in edited:
-            shutil.copytree(f"{TOP}/edits/{name}", f"{room}/crates/{name}/must-fail")
+    for edit in edits:
+        name, file = edit.split("/")
+        os.makedirs(f"{room}/crates/{name}/must-fail", exist_ok=True)
+        shutil.copy(f"{TOP}/edits/{edit}", f"{room}/crates/{name}/must-fail/{file}")

@@ -20,8 +20,8 @@ TESTS = re.compile(r"_(?:checks|cases)$|^page_(?:test_streams|worked|outline|pre
 
 
 def contracts_in(text):
-    """How many lines of a source are contracts."""
-    margin, count = None, 0
+    """The lines of a source that are contracts."""
+    margin = None
     for line in filter(str.strip, text):
         begins = len(line) - len(line.lstrip())
         if CONTRACT.match(line):
@@ -29,8 +29,7 @@ def contracts_in(text):
         elif margin is None or begins <= margin:
             margin = None
             continue
-        count += 1
-    return count
+        yield line.strip()
 
 
 def sizes():
@@ -47,8 +46,9 @@ def sizes():
             if TESTS.search(crate):
                 found["tests"] += len(text)
             elif path.endswith(".rt"):
-                found["contracts"] += contracts_in(text)
-                found["code"] += len(text) - contracts_in(text)
+                contracts = len(list(contracts_in(text)))
+                found["contracts"] += contracts
+                found["code"] += len(text) - contracts
             elif "/proofs/" in path:
                 found["proofs"] += len(text)
             else:

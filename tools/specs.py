@@ -64,8 +64,10 @@ def items(text):
 class Definitions:
     """The definitions of all crates, and those that are reached from one of them."""
 
+    # what is read once, for all that ask: files by path, and what each definition names, by its lines
+    files, cited = {}, {}
+
     def __init__(self):
-        self.files = {}
         self.reached = {}
 
     def file(self, module):
@@ -94,9 +96,10 @@ class Definitions:
             if lines is None or id(lines) in self.reached.setdefault(path, {}):
                 continue
             self.reached[path][id(lines)] = lines
-            words = WORD.findall(" ".join(re.sub(r"--.*", "", line) for line in lines))
-            waiting += [(path, word) for word in words if word in own]
-            waiting += self.named(brought, words)
+            if id(lines) not in self.cited:
+                words = WORD.findall(" ".join(re.sub(r"--.*", "", line) for line in lines))
+                self.cited[id(lines)] = {(path, word) for word in words if word in own} | set(self.named(brought, words))
+            waiting += self.cited[id(lines)]
 
     def named(self, brought, words):
         """The definitions that words name, by what `use` lines bring in; a module that is brought in whole stands before its name."""

@@ -1,7 +1,8 @@
 """What `rt ci` tells, line by line: what it proved, refused and ran, and what is a failure here though its status is 0.
 
 Such are an edit that can't be made or whose text the prover can't read (`BAD EDIT`), one that is refused only by a limit of the prover, which gives no
-verdict, one that nothing is told of, and a program that one of the two compilers did not build.
+verdict, or only because a proof names what it took away, which says nothing of a contract, one that nothing is told of, and a program that one of the two
+compilers did not build.
 """
 import re
 import subprocess
@@ -11,8 +12,16 @@ COMPILERS = {"": "LLVM", " (built by Rattle's own compiler)": "Rattle's own comp
 
 CRATE = re.compile(r"rt: (\w+)(?:: its tests are)? (proved$|NOT PROVED|is kept: )")
 EDIT = re.compile(r"rt: (?:must-fail )?(\S+): ((?:refused, as it must be|BAD EDIT|NOT TRIED|NOT REFUSED).*)")
-# (a proof file may name what an edit took away: that is a refusal as well)
-REFUSED = re.compile(r"refused, as it must be($|: | \(only because a proof file names )")
+# What is told of an edit, by how it begins.
+CLAUSE = "refused by a clause"
+KINDS = {
+    CLAUSE: r"refused, as it must be(?:$|: )",
+    "refused only by a name in a proof": r"refused, as it must be \(only because a proof file names",
+    "refused only by a limit": r"refused, as it must be \(",
+    "not refused": "NOT REFUSED",
+    "not tried": "NOT TRIED",
+    "bad": "BAD EDIT",
+}
 RAN = re.compile(r"rt: (\w+) ran( \(built by Rattle's own compiler\))?, and wrote what its file stdout has$")
 TESTED = re.compile(r"test result: \w+\. (\d+) passed; (\d+) failed")
 BEGUN = re.compile(r"== (\w+)")
@@ -20,11 +29,11 @@ NOTE = re.compile(r"rt: note: (Rattle's own compiler did not compile this progra
 
 
 class Verdicts:
-    """What was told so far: crates that are proved, edits that are refused, tests that passed, each beside those that were tried; the programs that ran, each
-    with its compiler; and what is wrong with edits though it fails nothing in `rt ci`."""
+    """What was told so far: crates that are proved, what was said of each edit, tests that passed, each beside those that were tried; and the programs that
+    ran, each with its compiler."""
 
     def __init__(self):
-        self.crates, self.unproved, self.edits, self.refused, self.wrong = set(), set(), set(), set(), []
+        self.crates, self.unproved, self.said = set(), set(), {}
         self.tests, self.failed_tests, self.ran, self.notes, self.begun = 0, 0, set(), {}, ""
 
     @property
@@ -34,7 +43,7 @@ class Verdicts:
     def hear(self, line):
         """Takes a line."""
         if found := EDIT.match(line):
-            self.hear_of_edit(*found.groups())
+            self.said[found[1]] = found[2]
         elif found := CRATE.match(line):
             self.crates.add(found[1])
             self.unproved |= {found[1]} if found[2] == "NOT PROVED" else set()
@@ -47,18 +56,18 @@ class Verdicts:
         elif found := NOTE.match(line):
             self.notes[self.begun] = found[1]
 
-    def hear_of_edit(self, edit, said):
-        """Takes what is told of an edit."""
-        self.edits.add(edit)
-        if REFUSED.match(said):
-            self.refused.add(edit)
-        elif not said.startswith(("NOT TRIED", "NOT REFUSED")):
-            self.wrong.append(f"{edit}: {said}")
+    def kinds(self):
+        """The kind of what was said of each edit."""
+        return {edit: next(kind for kind, begins in KINDS.items() if re.match(begins, said)) for edit, said in self.said.items()}
+
+    def refused(self):
+        """How many edits a clause refused."""
+        return list(self.kinds().values()).count(CLAUSE)
 
     def wrong_edits(self, edits):
         """What is wrong with edits of proved crates, each by its crate and file, though it fails nothing in `rt ci`."""
-        untold = (edit for edit in edits if edit.split("/")[0] in self.proved and edit not in self.edits)
-        return self.wrong + [f"{edit}: NOT TRIED: nothing is told of it" for edit in untold]
+        wrong = [f"{edit}: {self.said[edit]}" for edit, kind in self.kinds().items() if kind not in (CLAUSE, "not refused", "not tried")]
+        return wrong + [f"{edit}: NOT TRIED: nothing is told of it" for edit in edits if edit.split("/")[0] in self.proved and edit not in self.said]
 
     def missing_builds(self, programs):
         """The proved programs that one of the compilers did not build, or that it built and that did not run as they must."""
