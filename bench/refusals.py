@@ -1,5 +1,6 @@
 #!/usr/bin/env python3
-"""Refuses each allocation in turn to runs over the pages of page_engine_cases (usage: bench/refusals.py PROGRAM).
+"""Refuses each allocation in turn to runs over the pages of page_engine_cases (usage: bench/refusals.py [--few] PROGRAM). With --few it takes some
+of the pages, without a cut, and its last line is 'N passed, M failed': the gate runs that.
 
 The program feeds a page line by line, first to a page and then to roff alone. What is not theirs has its memory before they are made; after
 the end of each the program makes one allocation of its own. So where an allocation is refused, there is either no page, or no roff, or the one
@@ -16,53 +17,16 @@ import subprocess
 import sys
 import tempfile
 
-# Stands before the allocator of the C library: the call of the number FAIL_AT is refused.
-REFUSING = r"""
-#define _GNU_SOURCE
-#include <dlfcn.h>
-#include <errno.h>
-#include <stdio.h>
-#include <stdlib.h>
-static long calls, refused = -1;
-__attribute__((destructor)) static void count(void) {
-    const char *name = getenv("CALLS_TO");
-    FILE *file = name ? fopen(name, "w") : 0;
-    if (file) { fprintf(file, "%ld", calls); fclose(file); }
-}
-static int refuses(void) {
-    if (refused < 0) { const char *at = getenv("FAIL_AT"); refused = at ? atol(at) : 0; }
-    return ++calls == refused;
-}
-void *malloc(size_t size) {
-    static void *(*below)(size_t);
-    if (!below) below = dlsym(RTLD_NEXT, "malloc");
-    if (refuses()) { errno = ENOMEM; return 0; }
-    return below(size);
-}
-void *realloc(void *old, size_t size) {
-    static void *(*below)(void *, size_t);
-    if (!below) below = dlsym(RTLD_NEXT, "realloc");
-    if (refuses()) { errno = ENOMEM; return 0; }
-    return below(old, size);
-}
-void *aligned_alloc(size_t align, size_t size) {
-    static void *(*below)(size_t, size_t);
-    if (!below) below = dlsym(RTLD_NEXT, "aligned_alloc");
-    if (refuses()) { errno = ENOMEM; return 0; }
-    return below(align, size);
-}
-int posix_memalign(void **to, size_t align, size_t size) {
-    static int (*below)(void **, size_t, size_t);
-    if (!below) below = dlsym(RTLD_NEXT, "posix_memalign");
-    return refuses() ? ENOMEM : below(to, align, size);
-}
-"""
+sys.path.append(os.path.join(os.path.dirname(os.path.abspath(__file__)), "../tools"))
+from cases.memory import library_in
 
 PUT_DOWN = b"-- no memory to put it down\n"
 GO_ON = b"-- no memory to go on\n"
 AFTER_PAGE = b"-- no memory after the page\n"
 NO_ROFF = b"-- not by roff alone\n"
 AFTER_ROFF = b"-- no memory after roff\n"
+# Of how many pages one is among few.
+APART = 40
 STAGES = (PUT_DOWN, GO_ON, AFTER_PAGE, NO_ROFF, AFTER_ROFF)
 
 # Words of pages that are to fail otherwise, or are refused memory by the program.
@@ -151,32 +115,36 @@ def cuts_of(program, library, page):
     return found[:1]
 
 
-def tried(program, library, page):
+def tried(program, library, page, is_cut):
     """Returns what is printed at the cuts of a page, and what it does not keep to, or None."""
     try:
+        if not is_cut:
+            tellings(program, library, cut_after(page, 0))
+            return [], None
         return cuts_of(program, library, page), None
     except Bad as bad:
         return [], str(bad)
 
 
 def main():
-    program = os.path.abspath(sys.argv[1])
+    program, are_few = os.path.abspath(sys.argv[-1]), "--few" in sys.argv[1:-1]
     cases = os.path.join(os.path.dirname(os.path.abspath(__file__)), "../crates/page_engine_cases/stdin")
     with open(cases, "rb") as file:
         pages = re.split(rb"(?m)^(?=== )", file.read())[1:]
     pages = [page for page in pages if not FAILING.search(page.split(b"\n", 1)[0])]
+    pages = [page for page in pages[::APART] if page.count(b"\n") > 2] if are_few else pages
     bad, all_cuts = 0, []
     with tempfile.TemporaryDirectory() as room:
-        source, library = f"{room}/refusing.c", f"{room}/refusing.so"
-        with open(source, "w") as file:
-            file.write(REFUSING)
-        subprocess.run(["cc", "-O1", "-shared", "-fPIC", "-o", library, source, "-ldl"], check=True)
+        library = library_in(room)
         with concurrent.futures.ThreadPoolExecutor(os.cpu_count()) as pool:
-            for page, (cuts, fault) in zip(pages, pool.map(lambda page: tried(program, library, page), pages)):
+            for page, (cuts, fault) in zip(pages, pool.map(lambda page: tried(program, library, page, not are_few), pages)):
                 all_cuts += cuts
                 if fault:
                     bad += 1
                     print(f"{page.split(bytes([10]), 1)[0].decode()}: {fault}")
+    if are_few:
+        print(f"{len(pages) - bad} passed, {bad} failed")
+        sys.exit(bool(bad))
     for line, count in all_cuts[0] if all_cuts else []:
         print(f"{count:3} times {line.decode().strip()}")
     if any(cuts != all_cuts[0] for cuts in all_cuts):

@@ -10,7 +10,8 @@ import subprocess
 import sys
 import tempfile
 
-from refusals import REFUSING
+sys.path.append(os.path.join(os.path.dirname(os.path.abspath(__file__)), "../tools"))
+from cases.memory import REFUSING, library_in
 
 ONE = ".TH ONE 1 2020-01-01 S\n.SH NAME\none \\- first\n.SH A\ntext\n"
 TWO = ".Dd 2020-01-01\n.Dt TWO 1\n.Os S\n.Sh NAME\n.Nm two\n.Nd second\n.Sh A\n.ZZ\n.Bl -tag -width 4n\n.It a\nb\n.El\n"
@@ -114,10 +115,7 @@ def main():
     program = os.path.abspath(sys.argv[1])
     bad = 0
     with tempfile.TemporaryDirectory() as room:
-        source, library = f"{room}/refusing.c", f"{room}/refusing.so"
-        with open(source, "w") as file:
-            file.write(REPORTING)
-        subprocess.run(["cc", "-O1", "-shared", "-fPIC", "-o", library, source, "-ldl"], check=True)
+        library = library_in(room, REPORTING)
         for words, text, files in RUNS:
             count, fault = tried(program, library, words, text, files)
             bad += fault is not None
