@@ -55,7 +55,7 @@ def first_of(block):
 def head_of(block, margin):
     """A function without its body."""
     for at, line in enumerate(block):
-        if line == margin + "{":
+        if line in (margin + "{", margin + "{}"):
             return block[:at]
         if line.endswith((" {", "{}")) and (FUNCTION.match(line) or line.startswith(margin + ")")):
             return [*block[:at], line.rstrip("{} ")]
