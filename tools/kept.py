@@ -4,6 +4,7 @@ refused it. `tools/edits` writes the file, and `docs/check` reports a verdict th
 The file can be written by hand, and what the hash leaves out may matter after all: so the gate tries some of the edits whatever the file says.
 """
 import collections
+import fcntl
 import functools
 import os
 import re
@@ -44,11 +45,14 @@ def kept():
 
 
 def keep(verdicts):
-    """Adds verdicts to the file, and drops those on edits that are gone. The file is replaced at once, so a run that is killed leaves a whole one."""
+    """Adds verdicts to the file, and drops those on edits that are gone. One run at a time does so, and replaces the whole file."""
+    folder = os.open(f"{TOP}/edits", os.O_RDONLY)
+    fcntl.flock(folder, fcntl.LOCK_EX)
     there, found = set(edits_of()), {**kept(), **verdicts}
     with open(f"{TOP}/{FILE}.new", "w", encoding="utf-8") as file:
         file.write(HEAD + "".join(f"{edit} {' '.join(found[edit])}\n" for edit in sorted(there & found.keys())))
     os.replace(f"{TOP}/{FILE}.new", f"{TOP}/{FILE}")
+    os.close(folder)
 
 
 def function_at(path, line):
