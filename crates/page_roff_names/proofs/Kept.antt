@@ -1,5 +1,5 @@
 -- What each change of one set keeps.
-use Rattle.std.proofs.Common.{◌≡◌, ℕ, zero, suc, ◌+◌, ◌<◌, ◌≤◌, Bool, true, false, cond, not, List, [], ◌∷◌, ◌++◌, length, unwrap_or, T, Some, None, MatchOption, subst, refl, sym, ap, ◌∙◌, add_comm, arith}
+use Rattle.std.proofs.Common.{◌≡◌, ◌≢◌, ℕ, zero, suc, ◌+◌, ◌-◌, ◌<◌, ◌≤◌, Bool, true, false, cond, not, List, [], ◌∷◌, ◌++◌, length, unwrap_or, T, Some, None, MatchOption, ◌⊎◌, inl, inr, subst, refl, sym, ap, ◌∙◌, add_comm, arith}
 use Rattle.std.specs.declared.cmp.Ordering.{Ordering}
 use Rattle.std.specs.declared.cmp.Ordering.TheVariants.{Less, Equal, Greater}
 use Rattle.std.specs.Ordering.{is_eq}
@@ -9,17 +9,19 @@ use Rattle.std.specs.declared.result.Result.TheVariants.{Ok, Err}
 use Rattle.std.specs.FinMap.{is_sorted}
 use Rattle.std.specs.FinMap.Entries.{by_order, is_sorted-put, is_sorted-where_key}
 use Rattle.std.specs.List.{insert, remove}
+use Rattle.std.proofs.lemmas.Bool.{cases_lt}
 use Rattle.std.proofs.lemmas.Cmp.{nat_list_cmp_total}
-use Rattle.page_core_base.specs.declared.limits.TheConstants.{BODY}
+use Rattle.page_core_base.specs.declared.limits.TheConstants.{BODY, NAME}
 use Rattle.page_core_base.specs.declared.limits.Limit.{Limit}
 use Rattle.page_roff_names.specs.declared.changes.OtherSet.{OtherSet}
 use Rattle.page_roff_names.specs.declared.rows.EntryKind.{EntryKind}
 use Rattle.page_roff_names.specs.laws.Views.{EntryFits, EntriesFit, DefinitionsFit, name_at, definition_at, value_at, Defines}
 use Rattle.page_roff_names.specs.Names.{Entries, Definition, definition, size, Definitions, definitions, with_text, by_bytes, first_passed, look, put, without}
-use Rattle.page_roff_names.specs.machine.Changes.{refusal_beside, Settles, RenamesBeside, IsKept, IsStore, IsBelow, IsAbove}
-use Rattle.page_roff_names.proofs.Laid.{length-remove, size-remove, length-insert, size-insert}
-use Rattle.page_roff_names.proofs.Search.{same_name, look_hit, put_hit, without_hit, look_miss, put_miss}
-use Rattle.page_roff_names.proofs.Refused.{within, same_limits}
+use Rattle.page_roff_names.specs.machine.Changes.{refusal_beside, Settles, RenamesBeside, IsKept, IsStore, IsBelow, IsAbove, PlaceWithout}
+use Rattle.std.proofs.lemmas.List.Edits.{length-remove, length-insert}
+use Rattle.page_roff_names.proofs.Laid.{size-remove, size-insert}
+use Rattle.page_roff_names.proofs.Search.{same_name, look_hit, put_hit, without_hit, look_miss, put_miss, sorted_remove, entry_left, remove_both}
+use Rattle.page_roff_names.proofs.Refused.{within, none_passed, same_limits}
 
 fit_by_order : (r : Ordering) (a b c : Entries) → EntriesFit a → EntriesFit b → EntriesFit c → EntriesFit (by_order r a b c)
 fit_by_order Less a b c p q s = p
@@ -31,31 +33,21 @@ fit_put n d [] f h = (f, tt)
 fit_put n d (e ∷ es) f h =
     fit_by_order (by_bytes n e.0) _ _ _ (f, h) (record { name = h.0.name; value = f.value }, h.1) (h.0, fit_put n d es f h.1)
 
-pub fit_remove : (es : Entries) (i : ℕ) → EntriesFit es → EntriesFit (remove es i)
-fit_remove [] zero h = tt
-fit_remove [] (suc i) h = tt
-fit_remove (e ∷ es) zero h = h.1
-fit_remove (e ∷ es) (suc i) h = (h.0, fit_remove es i h.1)
-
 pub short_at : (es : Entries) (i : ℕ) → EntriesFit es → length (value_at es i) ≤ BODY
 short_at [] i h = omega arith
 short_at (e ∷ es) zero h = h.0.value
 short_at (e ∷ es) (suc i) h = short_at es i h.1
+
+pub name_short_at : (es : Entries) (i : ℕ) → EntriesFit es → length (name_at es i) ≤ NAME
+name_short_at [] i h = omega arith
+name_short_at (e ∷ es) zero h = h.0.name
+name_short_at (e ∷ es) (suc i) h = name_short_at es i h.1
 
 pub kept_put : (o : OtherSet) (n : List ℕ) (d : Definition) (es : Entries) → T (is_sorted by_bytes es) → EntriesFit es → refusal_beside o n d.value (put n d es) ≡ None → IsKept o (put n d es)
 kept_put o n d es h k e =
     let w = within _ _ _ _ e in
     let f : EntryFits (n, d) = record { name = w.name_fits; value = w.value_fits } in
     record { sorted = is_sorted-put by_bytes nat_list_cmp_total n d es h; few = w.names_fit; small = w.bytes_fit; fit = fit_put n d es f k }
-
-pub sorted_remove : (n : List ℕ) (es : Entries) (i : ℕ) → T (is_sorted by_bytes es) → i < length es → by_bytes n (name_at es i) ≡ Equal → T (is_sorted by_bytes (remove es i))
-sorted_remove n es i h l e = subst (λ es. T (is_sorted by_bytes es)) (without_hit n es i h l e) (is_sorted-where_key by_bytes _ es h)
-
-pub kept_remove : (o : OtherSet) (n : List ℕ) (es : Entries) (i : ℕ) → IsKept o es → i < length es → by_bytes n (name_at es i) ≡ Equal → IsKept o (remove es i)
-kept_remove o n es i h l e =
-    let a = length-remove es i l in
-    let b = size-remove es i l in
-    record { sorted = sorted_remove n es i h.sorted l e; few = omega (arith, a, h.few); small = omega (arith, b, h.small); fit = fit_remove es i h.fit }
 
 length_cond : (b : Bool) (e : List ℕ × Definition) (xs es : Entries) → length xs ≤ length es → length (cond b (e ∷ xs) xs) ≤ length (e ∷ es)
 length_cond true e xs es h = omega (arith, h)
@@ -147,29 +139,72 @@ miss_length n d es i l b a = ap length (put_miss n d es i l b a) ∙ length-inse
 pub miss_size : (n : List ℕ) (d : Definition) (es : Entries) (i : ℕ) → i ≤ length es → IsBelow n i es → IsAbove n i es → size (put n d es) ≡ size es + (length n + length d.value)
 miss_size n d es i l b a = ap size (put_miss n d es i l b a) ∙ size-insert es i (n, d)
 
-pub put_back : (es : Entries) (i : ℕ) → i < length es → insert (remove es i) i (name_at es i, definition_at es i) ≡ es
-put_back [] i l = absurd (omega arith)
-put_back (e ∷ es) zero l = refl
-put_back (e ∷ es) (suc i) l = ap (λ es. e ∷ es) (put_back es i (omega arith))
+-- ---- A definition that gets another name
 
--- what was taken out is put in again
-pub undone : (old_name : List ℕ) (d : Definition) (es less : Entries) (i : ℕ) → i < length es → by_bytes old_name (name_at es i) ≡ Equal → d ≡ definition_at es i → less ≡ remove es i → insert less i (old_name, d) ≡ es
-undone old_name d es less i l e f is =
-    ap (λ m. insert m i (old_name, d)) is
-    ∙ ap (λ n. insert (remove es i) i (n, d)) (same_name old_name es i e)
-    ∙ ap (λ d. insert (remove es i) i (name_at es i, d)) f
-    ∙ put_back es i l
+-- it would be put where its name is not
+pub limits_missed : (o : OtherSet) (n : List ℕ) (es : Entries) (i to : ℕ) → i < length es → to < length es → IsBelow n to (remove es i) → IsAbove n to (remove es i)
+    → refusal_beside o n (value_at es i) (insert (remove es i) 0 (n, definition_at es i)) ≡ refusal_beside o n (value_at es i) (put n (definition_at es i) (remove es i))
+limits_missed o n es i to l t b a =
+    let d = definition_at es i in
+    let r = length-remove es i l in
+    let m = miss_length n d (remove es i) to (omega (arith, r, t)) b a in
+    let s = miss_size n d (remove es i) to (omega (arith, r, t)) b a in
+    same_limits (length n) (omega (arith, m)) refl (omega (arith, s))
 
-pub same_definition : (meaning : EntryKind) (value : List ℕ) (d : Definition) → meaning ≡ d.meaning → value ≡ d.value → definition meaning value ≡ d
-same_definition meaning value d e f = ap (λ m. definition m value) e ∙ ap (definition d.meaning) f
+-- it takes the place of that at p
+limits_hit_at : (o : OtherSet) (n : List ℕ) (es : Entries) (i p to : ℕ) → IsKept o es → i < length es → (p < length es) × (p ≢ i) → by_bytes n (name_at es p) ≡ Equal → PlaceWithout p i to
+    → refusal_beside o n (value_at es i) (put n (definition_at es i) (remove es i)) ≡ None
+limits_hit_at o n es i p to k l t e w =
+    let d = definition_at es i in
+    let left = entry_left es i p to t.1 l t.0 w in
+    let here = ap (λ x. by_bytes n x.0) left.1 ∙ e in
+    let sorted = sorted_remove es i k.sorted l in
+    let m = hit_length n d (remove es i) to sorted left.0 here in
+    let s = hit_size n d (remove es i) to sorted left.0 here in
+    let name = ap length (same_name n es p e) in
+    let gone = ap (λ x. length x.0) left.1 in
+    let r = length-remove es i l in
+    let z = size-remove es i l in
+    none_passed record {
+      name_fits = let short = name_short_at es p k.fit in omega (arith, name, short);
+      names_fit = omega (arith, m, r, k.few);
+      value_fits = short_at es i k.fit;
+      bytes_fit = omega (arith, s, name, gone, z, k.small);
+    }
 
-pub moved : (o : OtherSet) (n : List ℕ) (d e : Definition) (base less new : Entries) → less ≡ base → d ≡ e → (refusal_beside o n d.value (put n d less) ≡ None) × (new ≡ put n d less) → (refusal_beside o n e.value (put n e base) ≡ None) × (new ≡ put n e base)
-moved o n d e base less new is same s =
-    subst (λ d. (refusal_beside o n d.value (put n d base) ≡ None) × (new ≡ put n d base)) same (subst (λ m. (refusal_beside o n d.value (put n d m) ≡ None) × (new ≡ put n d m)) is s)
+pub limits_hit : (o : OtherSet) (n : List ℕ) (es : Entries) (i p : ℕ) → IsKept o es → i < length es → (p < length es) × (p ≢ i) → by_bytes n (name_at es p) ≡ Equal
+    → refusal_beside o n (value_at es i) (put n (definition_at es i) (remove es i)) ≡ None
+limits_hit o n es i p k l t e = by (cases_lt i p)
+  where
+    by : (i < p) ⊎ (p ≤ i) → refusal_beside o n (value_at es i) (put n (definition_at es i) (remove es i)) ≡ None
+    by (inl h) = limits_hit_at o n es i p (p - 1) k l t e (inl (h, omega (arith, h)))
+    by (inr h) = limits_hit_at o n es i p p k l t e (inr (h, refl))
 
-pub not_moved : (o : OtherSet) (n : List ℕ) (d e : Definition) (base less : Entries) (limit : Limit) → less ≡ base → d ≡ e → refusal_beside o n d.value (put n d less) ≡ Some limit → refusal_beside o n e.value (put n e base) ≡ Some limit
-not_moved o n d e base less limit is same s =
-    subst (λ d. refusal_beside o n d.value (put n d base) ≡ Some limit) same (subst (λ m. refusal_beside o n d.value (put n d m) ≡ Some limit) is s)
+pub record MovesOnto (n : List ℕ) (es : Entries) (i p from to : ℕ) : Type 0 where
+  pub from_in : from < length (remove es p)
+  pub to_in : to < length (remove es p)
+  pub small : size (remove (remove es p) from) + (length n + length (value_at (remove es p) from)) ≤ size es
+  pub is : insert (remove (remove es p) from) to (n, definition_at (remove es p) from) ≡ put n (definition_at es i) (remove es i)
+
+pub moves_onto : (n : List ℕ) (es : Entries) (i p from to : ℕ) → T (is_sorted by_bytes es) → i < length es → (p < length es) × (p ≢ i) → by_bytes n (name_at es p) ≡ Equal → PlaceWithout i p from → PlaceWithout p i to → MovesOnto n es i p from to
+moves_onto n es i p from to h l t e v w =
+    let d = definition_at es i in
+    let moved = entry_left es p i from (λ x. t.1 (sym x)) t.0 l v in
+    let left = entry_left es i p to t.1 l t.0 w in
+    let here = ap (λ x. by_bytes n x.0) left.1 ∙ e in
+    let name = ap length (same_name n es p e) in
+    let r = length-remove es i l in
+    let q = length-remove es p t.0 in
+    let y = size-remove es p t.0 in
+    let z = size-remove (remove es p) from moved.0 in
+    record {
+      from_in = moved.0;
+      to_in = omega (arith, left.0, r, q);
+      small = omega (arith, y, z, name);
+      is = ap (λ x. insert (remove (remove es p) from) to (n, x.1)) moved.1
+          ∙ ap (λ es. insert es to (n, d)) (remove_both es i p from to t.1 l t.0 v w)
+          ∙ sym (put_hit n d (remove es i) to (sorted_remove es i h l) left.0 here);
+    }
 
 pub renamed : (o : OtherSet) (old_name n : List ℕ) (es new : Entries) (i : ℕ) (r : Result (Unit {0}) Limit) → T (is_sorted by_bytes es) → i < length es → by_bytes old_name (name_at es i) ≡ Equal → Settles o n (value_at es i) (put n (definition_at es i) (remove es i)) es r new → RenamesBeside o old_name n es r new
 renamed o old_name n es new i r h l e s =

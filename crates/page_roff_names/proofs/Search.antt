@@ -1,16 +1,19 @@
 -- What a search of sorted entries finds.
-use Rattle.std.proofs.Common.{◌≡◌, ℕ, zero, suc, ◌+◌, ◌<◌, ◌≤◌, ◌&&◌, Bool, true, false, cond, not, T, List, [], ◌∷◌, length, Some, None, ◌⊎◌, inl, inr, refl, sym, ap, ◌∙◌, arith}
+use Rattle.std.proofs.Common.{◌≡◌, ◌≢◌, subst, ℕ, zero, suc, ◌+◌, ◌<◌, ◌≤◌, ◌&&◌, Bool, true, false, cond, not, T, List, [], ◌∷◌, length, Some, None, ◌⊎◌, inl, inr, refl, sym, ap, ◌∙◌, arith}
 use Rattle.std.proofs.Math.Nat.{eq-or-lt_of_le}
 use Rattle.std.specs.declared.cmp.Ordering.{Ordering}
 use Rattle.std.specs.declared.cmp.Ordering.TheVariants.{Less, Equal, Greater}
 use Rattle.std.specs.Ordering.{is_lt, is_eq, ordering_reverse}
 use Rattle.std.specs.FinMap.{is_sorted, slice_cmp-IsAntisymmetric, nat_cmp-IsAntisymmetric}
-use Rattle.std.specs.FinMap.Entries.{below_all, by_order}
+use Rattle.std.specs.FinMap.Entries.{below_all, by_order, is_sorted-where_key}
 use Rattle.std.specs.List.{insert, remove}
+use Rattle.std.proofs.lemmas.Bool.{cases_lt}
 use Rattle.std.proofs.lemmas.Cmp.{nat_list_cmp_total}
-use Rattle.page_roff_names.specs.Names.{Entries, Definition, by_bytes, look, put, without}
-use Rattle.page_roff_names.specs.laws.Views.{name_at, definition_at}
-use Rattle.page_roff_names.specs.machine.Changes.{IsBelow, IsAbove}
+use Rattle.std.proofs.lemmas.List.Edits.{length-remove, get_or-remove_below, get_or-remove_above}
+use Rattle.page_roff_names.specs.declared.rows.EntryKind.TheVariants.{String}
+use Rattle.page_roff_names.specs.Names.{Entries, Definition, definition, by_bytes, look, put, without}
+use Rattle.page_roff_names.specs.laws.Views.{entry_at, name_at, definition_at}
+use Rattle.page_roff_names.specs.machine.Changes.{IsBelow, IsAbove, PlaceWithout}
 
 and_left : (a b : Bool) → T (a && b) → T a
 and_left true b p = tt
@@ -113,3 +116,80 @@ put_miss n v [] zero l b a = refl
 put_miss n v [] (suc i) l b a = absurd (omega arith)
 put_miss n v (x ∷ es) zero l b a = ap (λ r. by_order r ((n, v) ∷ x ∷ es) ((x.0, v) ∷ es) (x ∷ put n v es)) (a 0 (omega arith) (omega arith))
 put_miss n v (x ∷ es) (suc i) l b a = ap (λ r. by_order r ((n, v) ∷ x ∷ es) ((x.0, v) ∷ es) (x ∷ put n v es)) (b 0 (omega arith)) ∙ ap (λ es. x ∷ es) (put_miss n v es i (omega arith) (below_later n x es i b) (above_later n x es i a))
+
+reversed : (r : Ordering) → r ≡ ordering_reverse r → r ≡ Equal
+reversed Less e = Prim.cc
+reversed Equal e = refl
+reversed Greater e = Prim.cc
+
+pub sorted_remove : (es : Entries) (i : ℕ) → T (is_sorted by_bytes es) → i < length es → T (is_sorted by_bytes (remove es i))
+sorted_remove es i h l =
+    let n = name_at es i in
+    subst (λ es. T (is_sorted by_bytes es)) (without_hit n es i h l (reversed _ (nat_list_cmp_total.antisymm n n))) (is_sorted-where_key by_bytes _ es h)
+
+-- ---- The entries without the i-th
+
+abbrev none : List ℕ × Definition
+none = ([], definition String [])
+
+pub entry_left : (es : Entries) (i p b : ℕ) → p ≢ i → i < length es → p < length es → PlaceWithout p i b → (b < length (remove es i)) × (entry_at (remove es i) b ≡ entry_at es p)
+entry_left es i p b n l k (inl h) =
+    let r = length-remove es i l in
+    (omega (arith, r, h.0, h.1, k), get_or-remove_above es i none b (omega (arith, h.0, h.1)) l ∙ ap (entry_at es) h.1)
+entry_left es i p b n l k (inr h) =
+    let r = length-remove es i l in
+    let below : b < i = before (eq-or-lt_of_le h.0) in
+    (omega (arith, r, below, l), get_or-remove_below es i none b below l ∙ ap (entry_at es) h.1)
+  where
+    before : (p ≡ i) ⊎ (p < i) → b < i
+    before (inl e) = absurd (n e)
+    before (inr e) = omega (arith, e, h.1)
+
+pub missing_left : (n : List ℕ) (es : Entries) (i p b : ℕ) → i < length es → IsBelow n p es → IsAbove n p es → PlaceWithout p i b → IsBelow n b (remove es i) × IsAbove n b (remove es i)
+missing_left n es i p b l below above w = (λ k q. lower k q w (before_or_after k), λ k q r. upper k q r w (before_or_after k))
+  where
+    before_or_after : (k : ℕ) → (k < i) ⊎ (i ≤ k)
+    before_or_after k = cases_lt k i
+
+    at_below : (k : ℕ) → k < i → by_bytes n (name_at (remove es i) k) ≡ by_bytes n (name_at es k)
+    at_below k q = ap (λ e. by_bytes n e.0) (get_or-remove_below es i none k q l)
+
+    at_above : (k : ℕ) → i ≤ k → by_bytes n (name_at (remove es i) k) ≡ by_bytes n (name_at es (k + 1))
+    at_above k q = ap (λ e. by_bytes n e.0) (get_or-remove_above es i none k q l)
+
+    lower : (k : ℕ) → k < b → PlaceWithout p i b → (k < i) ⊎ (i ≤ k) → by_bytes n (name_at (remove es i) k) ≡ Greater
+    lower k q (inl h) (inl s) = at_below k s ∙ below k (omega (arith, q, h.1))
+    lower k q (inl h) (inr s) = at_above k s ∙ below (k + 1) (omega (arith, q, h.1))
+    lower k q (inr h) (inl s) = at_below k s ∙ below k (omega (arith, q, h.1))
+    lower k q (inr h) (inr s) = absurd (omega (arith, q, h.0, h.1, s))
+
+    upper : (k : ℕ) → b ≤ k → k < length (remove es i) → PlaceWithout p i b → (k < i) ⊎ (i ≤ k) → by_bytes n (name_at (remove es i) k) ≡ Less
+    upper k q r (inl h) (inl s) = absurd (omega (arith, q, h.0, h.1, s))
+    upper k q r (inl h) (inr s) = let t = length-remove es i l in at_above k s ∙ above (k + 1) (omega (arith, q, h.1)) (omega (arith, r, t))
+    upper k q r (inr h) (inl s) = at_below k s ∙ above k (omega (arith, q, h.1)) (omega (arith, s, l))
+    upper k q r (inr h) (inr s) = let t = length-remove es i l in at_above k s ∙ above (k + 1) (omega (arith, s, h.0)) (omega (arith, r, t))
+
+pub missing_itself : (n : List ℕ) (es : Entries) (i : ℕ) → T (is_sorted by_bytes es) → i < length es → by_bytes n (name_at es i) ≡ Equal → IsBelow n i (remove es i) × IsAbove n i (remove es i)
+missing_itself n es i h l e = (
+  λ k q. ap (λ x. by_bytes n x.0) (get_or-remove_below es i none k q l) ∙ greater_before n (name_at es k) (name_at es i) e (sorted_at es k i h q l),
+  λ k q r. let t = length-remove es i l in
+      ap (λ x. by_bytes n x.0) (get_or-remove_above es i none k q l)
+      ∙ nat_list_cmp_total.congr n (name_at es i) (name_at es (k + 1)) e
+      ∙ sorted_at es i (k + 1) h (omega (arith, q)) (omega (arith, r, t)),
+)
+
+remove_earlier : (es : Entries) (i k : ℕ) → i ≤ k → suc k < length es → remove (remove es (suc k)) i ≡ remove (remove es i) k
+remove_earlier [] i k h l = absurd (omega arith)
+remove_earlier (e ∷ es) zero k h l = refl
+remove_earlier (e ∷ es) (suc i) zero h l = absurd (omega arith)
+remove_earlier (e ∷ es) (suc i) (suc k) h l = ap (λ es. e ∷ es) (remove_earlier es i k (omega arith) (omega arith))
+
+pub remove_both : (es : Entries) (i p a b : ℕ) → p ≢ i → i < length es → p < length es → PlaceWithout i p a → PlaceWithout p i b → remove (remove es p) a ≡ remove (remove es i) b
+remove_both es i p a b n l k (inl v) (inl w) = absurd (omega (arith, v.0, w.0))
+remove_both es i p a b n l k (inl v) (inr w) =
+    let e : i ≡ suc a = omega (arith, v.1) in
+    sym (remove_earlier es p a (omega (arith, v.0, v.1)) (omega (arith, v.1, l))) ∙ ap (remove (remove es (suc a))) (sym w.1) ∙ ap (λ i. remove (remove es i) b) (sym e)
+remove_both es i p a b n l k (inr v) (inl w) =
+    let e : p ≡ suc b = omega (arith, w.1) in
+    ap (λ p. remove (remove es p) a) e ∙ ap (remove (remove es (suc b))) v.1 ∙ remove_earlier es i b (omega (arith, w.0, w.1)) (omega (arith, w.1, k))
+remove_both es i p a b n l k (inr v) (inr w) = absurd (n (omega (arith, v.0, w.0)))

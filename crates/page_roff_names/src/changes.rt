@@ -1,11 +1,11 @@
 //! Changes of one set of names, which shares its limits with the other.
-ghost use Rattle.std.specs.Prelude.{◌≡◌, ◌+◌, ◌<◌, ◌≤◌, [], ◌++◌, length, IsTrue, MatchOption, MatchResult, Some, None, unwrap_or, T};
+ghost use Rattle.std.specs.Prelude.{◌≡◌, ◌≢◌, ◌+◌, ◌<◌, ◌≤◌, [], ◌++◌, length, IsTrue, MatchOption, MatchResult, Some, None, unwrap_or, T};
 ghost use Rattle.std.specs.FinMap.{is_sorted};
 ghost use Rattle.std.specs.List.{insert, remove};
 ghost use Rattle.std.specs.Vec.{vec_capacity};
 ghost use Rattle.page_roff_names.specs.laws.Views.{EntriesFit, name_at, definition_at, Lends};
 ghost use Rattle.page_roff_names.specs.Names.{Definition, definition, size, predefined, by_bytes, look, put, without, string_or, body_or_none, first_passed};
-ghost use Rattle.page_roff_names.specs.machine.Changes.{refusal_beside, Settles, RenamesBeside, IsKept, FoundAt, MissingAt, StandsAt};
+ghost use Rattle.page_roff_names.specs.machine.Changes.{refusal_beside, Settles, RenamesBeside, IsKept, FoundAt, MissingAt, StandsAt, PlaceWithout};
 
 use crate::predefined::predefined;
 use crate::rows::{EntryKind, Row};
@@ -194,23 +194,6 @@ fn passed(row: &Row, name: &[u8], value: usize, others: OtherSet) -> Option<Limi
     }
 }
 
-/// Puts a definition in the place of that of the i-th entry.
-fn replace(row: &mut Row, i: usize, name: &[u8], meaning: EntryKind, value: &[u8])
-    requires place { i < length row.old }
-    requires same { name.now ≡ name_at row.old i }
-    requires few { length row.old ≤ NAMES }
-    requires small { size (insert (remove row.old i) i (name.now, definition meaning value.now)) ≤ DEFS }
-    ensures { row.new ≡ insert (remove row.old i) i (name.now, definition meaning value.now) }
-{
-    let bytes = value.len() + row.value(i).len();
-    if bytes == 0 {
-        row.set_meaning(i, meaning);
-    } else {
-        row.remove(i);
-        row.insert(i, name, meaning, value);
-    }
-}
-
 /// Gives a name a definition.
 fn put_definition(row: &mut Row, name: &[u8], meaning: EntryKind, value: &[u8])
     requires sorted { T (is_sorted by_bytes row.old) }
@@ -219,7 +202,7 @@ fn put_definition(row: &mut Row, name: &[u8], meaning: EntryKind, value: &[u8])
     ensures { row.new ≡ put name.now (definition meaning value.now) row.old }
 {
     match search(row, name) {
-        Ok(i) => replace(row, i, name, meaning, value),
+        Ok(i) => row.set(i, name, meaning, value),
         Err(i) => row.insert(i, name, meaning, value),
     }
 }
@@ -292,50 +275,93 @@ pub(crate) fn withdraw(row: &mut Row, name: &[u8])
     }
 }
 
-/// Gives the i-th definition another name, unless that passes a limit.
-fn move_to(
-    row: &mut Row,
-    scratch: &mut Vec<u8>,
-    i: usize,
-    old_name: &[u8],
-    name: &[u8],
-    others: OtherSet,
-) -> Result<(), Limit>
-    requires place { i < length row.old }
-    requires same { by_bytes old_name.now (name_at row.old i) ≡ Ordering.Equal }
-    requires kept { IsKept others row.old }
-    requires scratch { BODY ≤ vec_capacity scratch.old }
-    ensures settles { let d = definition_at row.old i in
-        Settles others name.now d.value (put name.now d (remove row.old i)) row.old result row.new }
-    ensures scratch { BODY ≤ vec_capacity scratch.new }
+/// The limit that another name for the i-th definition passes, which no definition has.
+fn passed_by_name(row: &Row, i: usize, name: &[u8], others: OtherSet) -> Option<Limit>
+    requires place { i < length row.now }
+    requires kept { IsKept others row.now }
+    ensures { let d = definition_at row.now i in
+        result ≡ refusal_beside others name.now d.value (insert (remove row.now i) 0 (name.now, d)) }
 {
-    let meaning = row.meaning(i);
-    copy(scratch, row.value(i));
-    row.remove(i);
-    match settle(row, name, meaning, scratch, others) {
-        Ok(()) => Ok(()),
-        Err(limit) => {
-            row.insert(i, old_name, meaning, scratch);
-            Err(limit)
+    let value = row.value(i).len();
+    let own = row.name(i).len() + value;
+    first_passed(
+        name.len(),
+        row.len() + others.names,
+        value,
+        row.bytes() - own + others.bytes,
+    )
+}
+
+/// A place once what was at another is taken out.
+fn place_without(place: usize, removed: usize) -> usize
+    ensures { PlaceWithout place removed result }
+{
+    if removed < place { place - 1 } else { place }
+}
+
+/// Where a name is that the i-th entry is to have, or where it would be among the other entries.
+fn search_others(row: &Row, i: usize, name: &[u8]) -> Result<usize, usize>
+    requires i { i < length row.now }
+    requires sorted { T (is_sorted by_bytes row.now) }
+    ensures range { MatchResult result (λ place. (place < length row.now) × (place ≢ i)) (λ place. place < length row.now) }
+    ensures found { MatchResult result (λ place. FoundAt name.now row.now place) (λ place. MissingAt name.now (remove row.now i) place) }
+{
+    match search(row, name) {
+        Ok(place) if place != i => Ok(place),
+        Ok(_) => Err(i),
+        Err(place) => Err(place_without(place, i)),
+    }
+}
+
+/// Gives the i-th definition another name, in the place of the definition that this name has.
+fn move_onto(row: &mut Row, i: usize, name: &[u8], place: usize)
+    requires i { i < length row.old }
+    requires place { (place < length row.old) × (place ≢ i) }
+    requires found { FoundAt name.now row.old place }
+    requires sorted { T (is_sorted by_bytes row.old) }
+    requires small { size row.old ≤ DEFS }
+    ensures { row.new ≡ put name.now (definition_at row.old i) (remove row.old i) }
+{
+    let from = place_without(i, place);
+    let to = place_without(place, i);
+    row.remove(place);
+    row.rename(from, name, to);
+}
+
+/// Gives the i-th definition another name, unless that passes a limit. In the place of another definition it passes none.
+fn move_to(row: &mut Row, i: usize, name: &[u8], others: OtherSet) -> Result<(), Limit>
+    requires place { i < length row.old }
+    requires kept { IsKept others row.old }
+    ensures { let d = definition_at row.old i in
+        Settles others name.now d.value (put name.now d (remove row.old i)) row.old result row.new }
+{
+    match search_others(row, i, name) {
+        Ok(place) => {
+            move_onto(row, i, name, place);
+            Ok(())
         }
+        Err(to) => match passed_by_name(row, i, name, others) {
+            Some(limit) => Err(limit),
+            None => {
+                row.rename(i, name, to);
+                Ok(())
+            }
+        },
     }
 }
 
 /// Gives a definition another name, unless that passes a limit.
 pub(crate) fn rename(
     row: &mut Row,
-    scratch: &mut Vec<u8>,
     old_name: &[u8],
     name: &[u8],
     others: OtherSet,
 ) -> Result<(), Limit>
-    requires kept { IsKept others row.old }
-    requires scratch { BODY ≤ vec_capacity scratch.old }
-    ensures renames { RenamesBeside others old_name.now name.now row.old result row.new }
-    ensures scratch { BODY ≤ vec_capacity scratch.new }
+    requires { IsKept others row.old }
+    ensures { RenamesBeside others old_name.now name.now row.old result row.new }
 {
     match search(row, old_name) {
-        Ok(i) => move_to(row, scratch, i, old_name, name, others),
+        Ok(i) => move_to(row, i, name, others),
         Err(_) => Ok(()),
     }
 }

@@ -176,13 +176,7 @@ impl Names {
     pub fn rename(&mut self, old_name: &[u8], name: &[u8]) -> Result<(), Limit>
         ensures { Renames old_name.now name.now self.old result self.new }
     {
-        rename(
-            &mut self.texts,
-            &mut self.scratch,
-            old_name,
-            name,
-            others(&self.registers),
-        )
+        rename(&mut self.texts, old_name, name, others(&self.registers))
     }
 
     /// Gives a register a number.

@@ -1,10 +1,10 @@
 //! A row of names with what they stand for, their bytes in one text.
-ghost use Rattle.std.specs.Prelude.{◌≡◌, ◌+◌, ◌<◌, ◌≤◌, ◌^◌, IfOk, [], ◌++◌, length, take, drop};
-ghost use Rattle.std.specs.List.{insert, remove};
+ghost use Rattle.std.specs.Prelude.{◌≡◌, ◌+◌, ◌<◌, ◌≤◌, IfOk, [], ◌++◌, length};
+ghost use Rattle.std.specs.List.{All, insert, remove};
 ghost use Rattle.std.specs.Vec.{vec_len, vec_capacity};
-ghost use Rattle.page_roff_names.specs.Names.{Entries, size, definition};
-ghost use Rattle.page_roff_names.specs.laws.Views.{name_at, definition_at, with_meaning};
-ghost use Rattle.page_roff_names.specs.machine.Layout.{extent, layout, relaid, marked};
+ghost use Rattle.page_roff_names.specs.Names.{size, definition};
+ghost use Rattle.page_roff_names.specs.laws.Views.{name_at, definition_at};
+ghost use Rattle.page_roff_names.specs.machine.Layout.{slice, entry, cut, IsWithin, EndsBy};
 
 use page_core_base::{DEFS, NAMES, append};
 use std::alloc::{AllocError, Global};
@@ -18,20 +18,29 @@ pub enum EntryKind {
     Register(i32),
 }
 
-/// Where an entry's bytes begin, how many are its name's and its value's, and what it stands for.
+/// Where some bytes are in the text.
+#[derive(Clone, Copy)]
+pub struct Part {
+    start: usize,
+    len: usize,
+}
+
+/// Where an entry's name and its value are, and what it stands for.
 #[derive(Clone, Copy)]
 pub struct Span {
-    start: usize,
-    name: usize,
-    value: usize,
+    name: Part,
+    value: Part,
     meaning: EntryKind,
 }
 
-/// Entries in a row.
+/// Entries in a row, their bytes in any order in the text. Those of a removed one stay until there is no more room.
 #[derive(Drop)]
 pub struct Row {
     spans: Vec<Span>,
     text: Vec<u8>,
+    // The bytes of all names and values.
+    bytes: usize,
+    spare: Vec<u8>,
 }
 
 impl Model for Row {
@@ -43,42 +52,35 @@ impl Model for Row {
 
     ghost view = { λ r. cut r.spans.items r.text.items };
 
-    ghost invariant = { λ r. IsLaid r.spans.items r.text.items (vec_capacity r.spans) (vec_capacity r.text) };
+    ghost invariant = { λ r. IsLaid r.spans.items r.text.items r.bytes (vec_capacity r.spans) (vec_capacity r.text) (vec_capacity r.spare) };
 }
 
-/// Puts a name and a value into the text.
-fn open_text(text: &mut Vec<u8>, start: usize, name: &[u8], value: &[u8])
-    requires start { start ≤ vec_len text.old }
-    requires room { vec_len text.old + length name.now + length value.now ≤ vec_capacity text.old }
-    ensures items { text.new.items
-        ≡ take start text.old.items ++ (name.now ++ (value.now ++ drop start text.old.items)) }
+/// Puts bytes at the end of a text.
+fn put(text: &mut Vec<u8>, bytes: &[u8]) -> Part
+    requires { vec_len text.old + length bytes.now ≤ vec_capacity text.old }
+    ensures is { (slice text.new.items result ≡ bytes.now) × (result.len ≡ length bytes.now) × EndsBy (length text.new.items) result }
+    ensures items { text.new.items ≡ text.old.items ++ bytes.now }
     ensures capacity { vec_capacity text.old ≤ vec_capacity text.new }
 {
-    append(text, name);
-    append(text, value);
-    text[start..].rotate_right(name.len() + value.len());
+    let start = text.len();
+    append(text, bytes);
+    Part {
+        start,
+        len: bytes.len(),
+    }
 }
 
-/// Takes some bytes out of the text.
-fn close_text(text: &mut Vec<u8>, start: usize, count: usize)
-    requires { start + count ≤ vec_len text.old }
-    ensures items { text.new.items ≡ take start text.old.items ++ drop (start + count) text.old.items }
+/// Puts a name and a value at the end of a text.
+fn put_entry(text: &mut Vec<u8>, name: &[u8], meaning: EntryKind, value: &[u8]) -> Span
+    requires { vec_len text.old + (length name.now + length value.now) ≤ vec_capacity text.old }
+    ensures is { (entry text.new.items result ≡ (name.now, definition meaning value.now)) × IsWithin (length text.new.items) result }
+    ensures items { text.new.items ≡ text.old.items ++ (name.now ++ value.now) }
     ensures capacity { vec_capacity text.old ≤ vec_capacity text.new }
 {
-    text[start..].rotate_left(count);
-    text.truncate(text.len() - count);
-}
-
-/// Says anew where each entry begins.
-fn relay(spans: &mut [Span])
-    requires { extent spans.old < 2 ^ 64 }
-    ensures { spans.new ≡ relaid 0 spans.old }
-{
-    let mut start = 0;
-    for i in 0..spans.len() {
-        let span = spans[i];
-        spans[i] = Span { start, ..span };
-        start += span.name + span.value;
+    Span {
+        name: put(text, name),
+        value: put(text, value),
+        meaning,
     }
 }
 
@@ -86,59 +88,59 @@ fn relay(spans: &mut [Span])
 fn put_span(spans: &mut Vec<Span>, i: usize, span: Span)
     requires place { i ≤ vec_len spans.old }
     requires room { vec_len spans.old < vec_capacity spans.old }
-    requires fits { extent spans.old.items + (span.name + span.value) < 2 ^ 64 }
-    ensures items { spans.new.items ≡ relaid 0 (insert spans.old.items i span) }
+    ensures items { spans.new.items ≡ insert spans.old.items i span }
     ensures capacity { vec_capacity spans.old ≤ vec_capacity spans.new }
 {
     match spans.insert(i, span) {
         Ok(()) => (),
         Err(_) => unreachable!(),
     }
-    relay(spans);
 }
 
-/// Takes a span away.
-fn drop_span(spans: &mut Vec<Span>, i: usize)
-    requires place { i < vec_len spans.old }
-    requires fits { extent spans.old.items < 2 ^ 64 }
-    ensures items { spans.new.items ≡ relaid 0 (remove spans.old.items i) }
-    ensures capacity { vec_capacity spans.old ≤ vec_capacity spans.new }
+fn bytes_at(text: &[u8], part: Part) -> &[u8]
+    requires { EndsBy (length text.now) part }
+    ensures { result.now ≡ slice text.now part }
 {
-    let _ = spans.remove(i);
-    relay(spans);
+    &text[part.start..part.start + part.len]
 }
 
-/// Gives a span another meaning.
-fn mark(spans: &mut [Span], i: usize, meaning: EntryKind)
-    requires { i < length spans.old }
-    ensures { spans.new ≡ marked spans.old i meaning }
+/// Copies the bytes of spans, and nothing between them, to another text.
+fn gather(spans: &mut [Span], text: &[u8], other: &mut Vec<u8>)
+    requires within { All (IsWithin (length text.now)) spans.old }
+    requires room { size (cut spans.old text.now) ≤ vec_capacity other.old }
+    ensures same { cut spans.new other.new.items ≡ cut spans.old text.now }
+    ensures within { All (IsWithin (length other.new.items)) spans.new }
+    ensures bytes { length other.new.items ≡ size (cut spans.old text.now) }
+    ensures capacity { vec_capacity other.old ≤ vec_capacity other.new }
 {
-    let span = spans[i];
-    spans[i] = Span { meaning, ..span };
+    other.clear();
+    for i in 0..spans.len() {
+        let Span {
+            name,
+            value,
+            meaning,
+        } = spans[i];
+        spans[i] = put_entry(other, bytes_at(text, name), meaning, bytes_at(text, value));
+    }
 }
 
-/// Gives a span of the row another meaning.
-fn mark_span(spans: &mut Vec<Span>, i: usize, meaning: EntryKind)
-    requires { i < vec_len spans.old }
-    ensures items { spans.new.items ≡ marked spans.old.items i meaning }
-    ensures capacity { vec_capacity spans.old ≤ vec_capacity spans.new }
+/// Makes room for bytes at the end of a text.
+fn make_room(spans: &mut Vec<Span>, text: &mut Vec<u8>, spare: &mut Vec<u8>, count: usize)
+    requires within { All (IsWithin (length text.old.items)) spans.old.items }
+    requires room { size (cut spans.old.items text.old.items) + count ≤ vec_capacity text.old }
+    requires spare { size (cut spans.old.items text.old.items) ≤ vec_capacity spare.old }
+    ensures same { cut spans.new.items text.new.items ≡ cut spans.old.items text.old.items }
+    ensures within { All (IsWithin (length text.new.items)) spans.new.items }
+    ensures room { vec_len text.new + count ≤ vec_capacity text.new }
+    ensures spans { vec_capacity spans.old ≤ vec_capacity spans.new }
+    ensures capacity { vec_capacity text.old ≤ vec_capacity text.new }
+    ensures spare { vec_capacity spare.old ≤ vec_capacity spare.new }
 {
-    mark(spans, i, meaning);
-}
-
-/// Where the i-th entry begins, or the end.
-fn start_of(spans: &[Span], i: usize, end: usize) -> usize
-    ensures { (m : Entries) → spans.now ≡ layout 0 m → end ≡ size m → i ≤ length m
-        → result ≡ size (take i m) }
-{
-    if i < spans.len() { spans[i].start } else { end }
-}
-
-fn part(text: &[u8], start: usize, count: usize) -> &[u8]
-    requires { start + count ≤ length text.now }
-    ensures { result.now ≡ take count (drop start text.now) }
-{
-    &text[start..start + count]
+    if count > text.capacity() - text.len() {
+        gather(spans, text, spare);
+        text.clear();
+        append(text, spare);
+    }
 }
 
 impl Row {
@@ -148,7 +150,9 @@ impl Row {
     {
         Ok(Row {
             spans: Vec::with_capacity(alloc, NAMES)?,
-            text: Vec::with_capacity(alloc, DEFS)?,
+            text: Vec::with_capacity(alloc, 2 * DEFS)?,
+            bytes: 0,
+            spare: Vec::with_capacity(alloc, DEFS)?,
         })
     }
 
@@ -158,9 +162,15 @@ impl Row {
     {
         let mut spans = Vec::with_capacity(alloc, NAMES)?;
         spans.extend_from_slice(&self.spans)?;
-        let mut text = Vec::with_capacity(alloc, DEFS)?;
+        let mut text = Vec::with_capacity(alloc, 2 * DEFS)?;
         text.extend_from_slice(&self.text)?;
-        Ok(Row { spans, text })
+        let spare = Vec::with_capacity(alloc, DEFS)?;
+        Ok(Row {
+            spans,
+            text,
+            bytes: self.bytes,
+            spare,
+        })
     }
 
     pub fn len(&self) -> usize
@@ -173,23 +183,21 @@ impl Row {
     pub fn bytes(&self) -> usize
         ensures { result ≡ size self.now }
     {
-        self.text.len()
+        self.bytes
     }
 
     pub fn name(&self, i: usize) -> &[u8]
         requires { i < length self.now }
         ensures { result.now ≡ name_at self.now i }
     {
-        let span = self.spans[i];
-        part(&self.text, span.start, span.name)
+        bytes_at(&self.text, self.spans[i].name)
     }
 
     pub fn value(&self, i: usize) -> &[u8]
         requires { i < length self.now }
         ensures { result.now ≡ (definition_at self.now i).value }
     {
-        let span = self.spans[i];
-        part(&self.text, span.start + span.name, span.value)
+        bytes_at(&self.text, self.spans[i].value)
     }
 
     pub fn meaning(&self, i: usize) -> EntryKind
@@ -199,33 +207,48 @@ impl Row {
         self.spans[i].meaning
     }
 
-    /// Gives the i-th entry another meaning, with the value that it has.
-    pub fn set_meaning(&mut self, i: usize, meaning: EntryKind)
-        requires { i < length self.old }
-        ensures { self.new ≡ with_meaning self.old i meaning }
+    /// Puts an entry in the place of the i-th.
+    pub fn set(&mut self, i: usize, name: &[u8], meaning: EntryKind, value: &[u8])
+        requires place { i < length self.old }
+        requires bytes { size (remove self.old i) + (length name.now + length value.now) ≤ DEFS }
+        ensures { self.new ≡ insert (remove self.old i) i (name.now, definition meaning value.now) }
     {
-        mark_span(&mut self.spans, i, meaning);
+        let bytes = name.len() + value.len();
+        make_room(&mut self.spans, &mut self.text, &mut self.spare, bytes);
+        let old = self.spans[i];
+        self.spans[i] = put_entry(&mut self.text, name, meaning, value);
+        self.bytes = self.bytes - (old.name.len + old.value.len) + bytes;
     }
 
     /// Puts an entry in before the i-th.
     pub fn insert(&mut self, i: usize, name: &[u8], meaning: EntryKind, value: &[u8])
         requires place { i ≤ length self.old }
         requires names { length self.old < NAMES }
-        requires bytes { size self.old + length name.now + length value.now ≤ DEFS }
+        requires bytes { size self.old + (length name.now + length value.now) ≤ DEFS }
         ensures { self.new ≡ insert self.old i (name.now, definition meaning value.now) }
     {
-        let start = start_of(&self.spans, i, self.text.len());
-        open_text(&mut self.text, start, name, value);
-        put_span(
-            &mut self.spans,
-            i,
-            Span {
-                start,
-                name: name.len(),
-                value: value.len(),
-                meaning,
-            },
-        );
+        let bytes = name.len() + value.len();
+        make_room(&mut self.spans, &mut self.text, &mut self.spare, bytes);
+        let span = put_entry(&mut self.text, name, meaning, value);
+        put_span(&mut self.spans, i, span);
+        self.bytes += bytes;
+    }
+
+    /// Gives the i-th entry another name, and with it another place among the others.
+    pub fn rename(&mut self, i: usize, name: &[u8], to: usize)
+        requires from { i < length self.old }
+        requires to { to < length self.old }
+        requires bytes { size (remove self.old i) + (length name.now + length (definition_at self.old i).value) ≤ DEFS }
+        ensures { self.new ≡ insert (remove self.old i) to (name.now, definition_at self.old i) }
+    {
+        make_room(&mut self.spans, &mut self.text, &mut self.spare, name.len());
+        let span = self.spans.remove(i);
+        let renamed = Span {
+            name: put(&mut self.text, name),
+            ..span
+        };
+        put_span(&mut self.spans, to, renamed);
+        self.bytes = self.bytes - span.name.len + name.len();
     }
 
     /// Takes the i-th entry out.
@@ -233,8 +256,7 @@ impl Row {
         requires { i < length self.old }
         ensures { self.new ≡ remove self.old i }
     {
-        let span = self.spans[i];
-        close_text(&mut self.text, span.start, span.name + span.value);
-        drop_span(&mut self.spans, i);
+        let span = self.spans.remove(i);
+        self.bytes -= span.name.len + span.value.len;
     }
 }

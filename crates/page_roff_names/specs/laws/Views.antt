@@ -1,6 +1,6 @@
 -- What contracts of the code say by the definitions, and what is proved of these.
 use Rattle.std.specs.Borrow.{Bor}
-use Rattle.std.specs.Prelude.{ℕ, zero, suc, List, [], ◌∷◌, ◌≡◌, MatchOption, Option, MatchResult, ◌≤◌, length, ◌+◌}
+use Rattle.std.specs.Prelude.{ℕ, List, [], ◌∷◌, ◌≡◌, MatchOption, Option, MatchResult, ◌≤◌, length, ◌+◌, get_or}
 use Rattle.std.specs.declared.option.Option.TheVariants.{Some, None}
 use Rattle.std.specs.declared.result.Result.{Result}
 use Rattle.std.specs.declared.result.Result.TheVariants.{Ok}
@@ -10,27 +10,17 @@ use Rattle.page_roff_names.specs.Names.{Entries, Definition, definition, Definit
 use Rattle.page_roff_names.specs.declared.rows.EntryKind.{EntryKind}
 use Rattle.page_roff_names.specs.declared.rows.EntryKind.TheVariants.{String}
 
+abbrev pub entry_at : Entries → ℕ → List ℕ × Definition
+entry_at es i = get_or es i ([], definition String [])
+
 abbrev pub name_at : Entries → ℕ → List ℕ
-name_at [] i = []
-name_at (e ∷ es) zero = e.0
-name_at (e ∷ es) (suc i) = name_at es i
+name_at es i = (entry_at es i).0
 
 abbrev pub definition_at : Entries → ℕ → Definition
-definition_at [] i = definition String []
-definition_at (e ∷ es) zero = e.1
-definition_at (e ∷ es) (suc i) = definition_at es i
+definition_at es i = (entry_at es i).1
 
 abbrev pub value_at : Entries → ℕ → List ℕ
 value_at es i = (definition_at es i).value
-
-abbrev pub meaning_at : Entries → ℕ → EntryKind
-meaning_at es i = (definition_at es i).meaning
-
--- the i-th entry with another meaning
-abbrev pub with_meaning : Entries → ℕ → EntryKind → Entries
-with_meaning [] i meaning = []
-with_meaning (e ∷ es) zero meaning = (e.0, definition meaning e.1.value) ∷ es
-with_meaning (e ∷ es) (suc i) meaning = e ∷ with_meaning es i meaning
 
 -- what is lent is this
 abbrev pub Lends : Option (Bor (List ℕ)) → Option (List ℕ) → Type 0

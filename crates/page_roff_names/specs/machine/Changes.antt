@@ -1,5 +1,5 @@
 -- The changes of one set of names beside the other: the code's own form of them. Trust needs no reading of it.
-use Rattle.std.specs.Prelude.{◌≡◌, ℕ, ◌+◌, ◌<◌, ◌≤◌, List, length, T, MatchOption, MatchResult}
+use Rattle.std.specs.Prelude.{◌≡◌, ◌⊎◌, ℕ, ◌+◌, ◌<◌, ◌≤◌, List, length, T, MatchOption, MatchResult}
 use Rattle.std.specs.declared.option.Option.{Option}
 use Rattle.std.specs.declared.option.Option.TheVariants.{Some, None}
 use Rattle.std.specs.declared.result.Result.{Result}
@@ -58,3 +58,7 @@ MissingAt n es i = IsBelow n i es × IsAbove n i es
 
 abbrev pub StandsAt : List ℕ → Entries → ℕ → Type 0
 StandsAt n es i = (i < length es) × (look n es ≡ Some (definition_at es i))
+
+-- the place where that of another is left out
+abbrev pub PlaceWithout : ℕ → ℕ → ℕ → Type 0
+PlaceWithout place removed result = ((removed < place) × (result + 1 ≡ place)) ⊎ ((place ≤ removed) × (result ≡ place))
