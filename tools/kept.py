@@ -26,9 +26,10 @@ def logic():
     return re.search(r"the kit with the logic `(\w+)`", text_of("README.md").replace("\n", " "))[1]
 
 
-def edits_of(crates=()):
-    """The edits of some crates, or of all: each as its crate and its file."""
-    return [path.removeprefix("edits/") for path, crate in edits("edits/*/*") if crate in crates or not crates]
+def edits_of(names=()):
+    """The edits with some names, each as its crate and its file: a name is that of a crate, or CRATE/EDIT; all edits where there is none."""
+    found = [(path.removeprefix("edits/"), crate) for path, crate in edits("edits/*/*")]
+    return [edit for edit, crate in found if not names or {crate, edit, edit.removesuffix(".edit")} & set(names)]
 
 
 def hash_for(edit):
