@@ -123,17 +123,23 @@ CASES = {
             before={INDEX: OLD, "man1/cat.1": Link("/proc/self/mem")},
             after={INDEX: WITHOUT_CAT},
         ),
-        Case(["makewhatis", "empty"], [notes("mandoc: empty/man1: cannot open\n")], 6, before={"empty/man1": "x"}, after={EMPTY: NONE}),
     ],
     "where an index cannot be written, the old one stays.": [
         Case(["makewhatis", ".", "."], [notes(LOST_INDEX)], 6, before={INDEX: OLD, "whatis.tmp": Folder}),
         Case(["makewhatis", ".", "."], [notes(LOST_INDEX)], 6, before={INDEX: Folder}),
         *(Case(["makewhatis", ".", "."], [notes(LOST_INDEX)], 6, before={INDEX: OLD}, most=most) for most in range(0, len(WHOLE), 8)),
     ],
-    "The old one also stays where a folder is there and cannot be listed, or where memory or another open file is refused": [
+    "The old one also stays where a folder is there and cannot be listed, as a link to a folder that is not mounted or what is no folder at all": [
+        *(
+            Case(["makewhatis", ".", "empty"], [notes(LOST_FOLDER + LOST_INDEX)], 6, before={INDEX: OLD, "man1": what})
+            for what in (Link("missing"), Link("quiet.1"), "x", Pipe)
+        ),
+        Case(["makewhatis", "empty"], [notes("mandoc: empty/man1: cannot open\n" + LOST_EMPTY)], 6, before={"empty/man1": Link("missing")}),
         Case(["makewhatis", ".", "empty"], [notes(LOST_FOLDER + LOST_INDEX)], 6, before={INDEX: OLD, "man1": Link("man1")}),
         Case(["makewhatis", "."], [notes("mandoc: ./man8: cannot open\n" + LOST_INDEX)], 6, before={INDEX: OLD, "man8": Locked}),
         Case(["makewhatis", "."], [notes("mandoc: ./man8: cannot open\n" + LOST_INDEX)], 6, before={"man8": Locked}),
+    ],
+    "or where memory or another open file is refused": [
         # (three standard streams, three that are held, and the index)
         Case(["makewhatis", "."], [notes(LOST_FOLDER + LOST_INDEX)], 6, before={INDEX: OLD}, numbers=7),
     ],

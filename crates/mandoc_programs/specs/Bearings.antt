@@ -8,10 +8,9 @@ use Rattle.page_core_base.specs.declared.faults.Fault.TheVariants as fault
 use Rattle.mandoc_programs.specs.declared.bearings.Bearing.{Bearing}
 use Rattle.mandoc_programs.specs.declared.bearings.Bearing.TheVariants.{NoFault, LeavesOut, KeepsOld}
 
--- of a folder that can't be listed: one that is missing has no pages, what is no folder has none either, and what another one has isn't known
+-- of a folder that can't be listed: one that is missing has no pages, and what another one has isn't known
 abbrev pub bearing_of_folder : ErrorKind → Bearing
 bearing_of_folder kind.NotFound = NoFault
-bearing_of_folder kind.NotADirectory = LeavesOut
 bearing_of_folder _ = KeepsOld
 
 -- the error numbers of memory that is refused (12), and of numbers of files, to the system (23) or to the program (24)

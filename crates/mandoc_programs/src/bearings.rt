@@ -30,7 +30,6 @@ pub fn bearing_of_folder(kind: ErrorKind) -> Bearing
 {
     match kind {
         ErrorKind::NotFound => Bearing::NoFault,
-        ErrorKind::NotADirectory => Bearing::LeavesOut,
         _ => Bearing::KeepsOld,
     }
 }

@@ -1,6 +1,6 @@
 //! The files of pages and indexes, as the system has them (stat(2), open(2)).
 
-use crate::unfinished::{LockedFiles, begin_index, is_name_of, remove_own};
+use crate::unfinished::{LockedFiles, begin_index, put_index, remove_own};
 use mandoc_formats::Finds;
 use mandoc_programs::{Folders, IndexPlaces};
 use std::alloc::{AllocError, Global};
@@ -37,8 +37,16 @@ impl<R: Files> Folders for RegularFiles<'_, R> {
     }
 
     fn list(&self, alloc: Global, name: &str) -> io::Result<Vec<String>> {
+        let entries = match fs::read_dir(&(self.files, alloc), name) {
+            // (a link to what isn't there is no folder that is missing)
+            Err(error) if error.kind() == ErrorKind::NotFound => {
+                fs::symlink_metadata(self.files, name)?;
+                return Err(io::Error::from(ErrorKind::NotADirectory));
+            }
+            found => found?,
+        };
         let mut names = Vec::new(alloc);
-        for entry in fs::read_dir(&(self.files, alloc), name)? {
+        for entry in entries {
             match entry {
                 Ok(entry) => names.push(String::from_str(alloc, entry.file_name())?)?,
                 Err(error) if error.kind() == ErrorKind::InvalidFilename => {}
@@ -90,17 +98,16 @@ impl<R: LockedFiles> IndexPlaces for IndexFiles<'_, R> {
         Ok(begun.ok())
     }
 
-    // Another file in its place is not renamed. The file is closed, and so no longer locked, once that is done.
+    // The file is closed, and so no longer locked, once that is done.
     fn put_in_place(&mut self, file: R::File) -> bool {
         let Some((unfinished, name)) = &self.names else {
             return false;
         };
-        let is_put = is_name_of(self.files, &file, unfinished.as_str())
-            && fs::rename(self.files, unfinished.as_str(), name.as_str()).is_ok();
-        if !is_put {
+        let put = put_index(self.files, &file, unfinished.as_str(), name.as_str());
+        if put.is_err() {
             remove_own(self.files, &file, unfinished.as_str());
         }
-        is_put
+        put.is_ok()
     }
 
     fn give_up(&mut self, file: R::File) {

@@ -52,27 +52,37 @@ fn create_locked<R: LockedFiles>(rt: &R, name: &str) -> io::Result<R::File> {
     }
 }
 
-/// Whether a name is that of a file that is open.
-pub fn is_name_of<R: Files>(rt: &R, file: &R::File, name: &str) -> bool {
-    match (file.metadata(), fs::symlink_metadata(rt, name)) {
-        (Ok(opened), Ok(named)) => opened.dev() == named.dev() && opened.ino() == named.ino(),
-        _ => false,
+/// Gives an open file another name, once its bytes are known to be on the disk (fsync(2)), unless the name that it has is another one's by now.
+pub fn put_index<R: Files>(rt: &R, file: &R::File, unfinished: &str, name: &str) -> io::Result<()> {
+    file.sync_all()?;
+    if !is_name_of(rt, file, unfinished)? {
+        return Err(io::Error::from(ErrorKind::NotFound));
     }
+    fs::rename(rt, unfinished, name)
 }
 
 /// Removes a file that is open, unless its name is another one's by now.
 pub fn remove_own<R: Files>(rt: &R, file: &R::File, name: &str) {
-    if is_name_of(rt, file, name) {
+    if is_name_of(rt, file, name).unwrap_or(false) {
         let _ = fs::remove_file(rt, name);
     }
+}
+
+// Whether a name is that of a file that is open.
+fn is_name_of<R: Files>(rt: &R, file: &R::File, name: &str) -> io::Result<bool> {
+    let opened = file.metadata()?;
+    let named = fs::symlink_metadata(rt, name)?;
+    Ok(opened.dev() == named.dev() && opened.ino() == named.ino())
 }
 
 // Gives an open file the permissions of the one whose place it is to take, where that one is a file of the same owner, who is the user that
 // this run works for.
 fn keep_mode<R: Files>(rt: &R, file: &R::File, name: &str) -> io::Result<()> {
-    let (Ok(new), Ok(old)) = (file.metadata(), fs::symlink_metadata(rt, name)) else {
-        return Ok(());
+    let old = match fs::symlink_metadata(rt, name) {
+        Err(error) if error.kind() == ErrorKind::NotFound => return Ok(()),
+        found => found?,
     };
+    let new = file.metadata()?;
     match kept_mode(old.is_file() && old.uid() == new.uid(), old.mode()) {
         Some(mode) => file.set_permissions(Permissions::from_mode(mode)),
         None => Ok(()),
@@ -106,9 +116,9 @@ fn remove_stale_file<R: LockedFiles>(rt: &R, name: &str) -> io::Result<()> {
 // Locks an open file. Where its name is another one's by now, the file is no longer of use, as if it were locked.
 fn lock<R: LockedFiles>(rt: &R, file: &R::File, name: &str) -> Result<(), TryLockError> {
     rt.try_lock(file)?;
-    if is_name_of(rt, file, name) {
-        Ok(())
-    } else {
-        Err(TryLockError::WouldBlock)
+    match is_name_of(rt, file, name) {
+        Ok(true) => Ok(()),
+        Ok(false) => Err(TryLockError::WouldBlock),
+        Err(error) => Err(TryLockError::Error(error)),
     }
 }

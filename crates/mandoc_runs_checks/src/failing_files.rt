@@ -27,12 +27,16 @@ pub enum Call {
     Write,
     /// What was written is put out.
     Flush,
+    /// What was written is brought to the disk.
+    Sync,
     /// A file is given another name.
     Rename,
     /// Rows or messages are written or put out.
     Print,
     /// It is looked at what has a name. (This one fails only where it is named, since most programs go on after it.)
     Look,
+    /// It is looked at what has a name, be it a link.
+    LookAtLink,
 }
 
 /// Which call fails, and how many of its kind come before it.
@@ -149,6 +153,7 @@ impl<F: OpenFile> OpenFile for FailingFile<'_, F> {
     }
 
     fn sync_all(&self) -> io::Result<()> {
+        self.failure.at(Call::Sync)?;
         self.file.sync_all()
     }
 
@@ -178,7 +183,11 @@ impl<'a, R: Files + AllocGlobal> Files for FailingFiles<'a, R> {
     type Dir = FailingNames<'a, R::Dir>;
 
     fn open_file(&self, how: &OpenOptions, path: &str) -> io::Result<FailingFile<'a, R::File>> {
-        self.failure.at(if how.asks_create() || how.asks_create_new() {
+        // (a file that is made where there is one would be another run's)
+        if how.asks_create() && !how.asks_create_new() {
+            return Err(io::Error::from(ErrorKind::Unsupported));
+        }
+        self.failure.at(if how.asks_create_new() {
             Call::Create
         } else {
             Call::Open
@@ -223,6 +232,7 @@ impl<'a, R: Files + AllocGlobal> Files for FailingFiles<'a, R> {
     }
 
     fn symlink_metadata(&self, path: &str) -> io::Result<Metadata> {
+        self.failure.at(Call::LookAtLink)?;
         let path = self.path(path)?;
         self.rt.symlink_metadata(path.as_str())
     }

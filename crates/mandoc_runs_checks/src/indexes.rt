@@ -69,6 +69,18 @@ const PAGES: &[Run] = &[
             after: Some(OLD),
         },
     },
+    // so does one of which it isn't known that the disk has it
+    Run {
+        words: &["makewhatis", ".", "."],
+        fails: NEVER,
+        written: &[LOST],
+        status: 6,
+        index: Index {
+            before: Some(OLD),
+            call: (Some(Call::Sync), 0),
+            after: Some(OLD),
+        },
+    },
 ];
 
 #[test]
@@ -77,14 +89,14 @@ fn makes_an_index(rt: HostRuntime) {
     check(&rt, made.is_ok(), &[], "the folder");
 }
 
-// Command lines whose calls fail in turn, and how many calls there are at least: files are opened, listed, read, made, locked, written and
-// renamed, and rows and messages are written and put out.
+// Command lines whose calls fail in turn, and how many calls there are at least: files are opened, listed, read, made, locked, looked at, written,
+// brought to the disk and renamed, and rows and messages are written and put out.
 const LINES: &[(&[&str], u32)] = &[
     (&["quiet.1"], 8),
     (&["-Tlint", "blank.1"], 8),
     (&["-Wall", "blank.1"], 8),
     (&["makewhatis", "-n", "."], 20),
-    (&["makewhatis", "."], 25),
+    (&["makewhatis", "."], 30),
     (&["whatis", "old"], 4),
     (&["whatis", "-w", "old"], 4),
 ];
