@@ -14,11 +14,18 @@ NONE, ONE = "whatis 2\n", "whatis 2\nt\t1\tx\tman1/t.1\n"
 NINE = {f"nine/man{n}/p.{n}": f".TH P {n}\n.SH NAME\np{n} \\- x\n" for n in range(1, 10)}
 NINE_INDEX = "whatis 2\n" + "".join(f"p{n}\t{n}\tx\tman{n}/p.{n}\n" for n in range(1, 10))
 # What a page that is compressed by each program begins with, and bytes that only nearly do.
-HEADS = {"gz": b"\x1f\x8b\x08\0", "xz": b"\xfd7zXZ\0", "bz2": b"BZh91AY", "zst": b"\x28\xb5\x2f\xfd\x04"}
-NEARLY = {"gz": b"\x1f\x8a", "xz": b"\xfd7zXY\0", "bz2": b"BZ", "zst": b"\x28\xb5\x2f\xfc"}
+# (bzip2 writes the size of its blocks, 1 to 9, and after that the first of them, or the end where there is none)
+HEADS = {
+    "gz": b"\x1f\x8b\x08\0",
+    "xz": b"\xfd7zXZ\0",
+    "bz2": b"BZh91AY&SY",
+    "1.bz2": b"BZh1\x17rE8P\x90",
+    "zst": b"\x28\xb5\x2f\xfd\x04",
+}
+NEARLY = [b"\x1f\x8a", b"\xfd7zXY\0", b"\xfd7zXZ\1", b"BZ", b"BZh", b"BZh01AY&SY", b"BZh:1AY&SY", b"BZh91AY&SX", b"BZh91AY&S", b"\x28\xb5\x2f\xfc"]
 COMPRESSED = {f"empty/man1/{name}.1.{name}": head + QUIET.encode() for name, head in HEADS.items()}
 ONE_COMPRESSED = {"empty/man8/b.8.gz": HEADS["gz"], "empty/man1/t.1": QUIET}
-PASSED_OVER = "mandoc: empty: 4 compressed pages passed over\n"
+PASSED_OVER = "mandoc: empty: 5 compressed pages passed over\n"
 
 LOST_CAT = "mandoc: ./man1/cat.1: cannot open\n"
 LOST_FOLDER = "mandoc: ./man1: cannot open\n"
@@ -80,19 +87,20 @@ CASES = {
     ],
     "A file that begins as gzip 1, xz 1, bzip2 1 or zstd 1 writes it is a compressed page, and is passed over.": [
         Case(["makewhatis", "empty"], [notes(PASSED_OVER)], before=COMPRESSED, after={EMPTY: NONE}),
-        Case(["makewhatis", "empty"], before={f"empty/man1/{name}.1": head for name, head in NEARLY.items()}, after={EMPTY: NONE}),
+        Case(["makewhatis", "empty"], before={f"empty/man1/{place}.1": head for place, head in enumerate(NEARLY)}, after={EMPTY: NONE}),
+        page(("BZh is text\n.TH U 1\n.SH NAME\nu \\- x\n", "u\t1\tx\tman1/p.1\n")),
     ],
     "The number of such pages in a directory is reported after its other pages.": [
         Case(
             ["makewhatis", "empty", "missing"],
-            [notes(PASSED_OVER.replace("4 compressed pages", "1 compressed page") + LOST_EMPTY.replace("empty", "missing"))],
+            [notes(PASSED_OVER.replace("5 compressed pages", "1 compressed page") + LOST_EMPTY.replace("empty", "missing"))],
             6,
             before=ONE_COMPRESSED,
             after={EMPTY: ONE},
         ),
         Case(
             ["makewhatis", "-n", "empty", "."],
-            [notes(PASSED_OVER.replace("4 compressed pages", "1 compressed page")), out("t(1) - x\n" + PRINTED)],
+            [notes(PASSED_OVER.replace("5 compressed pages", "1 compressed page")), out("t(1) - x\n" + PRINTED)],
             before=ONE_COMPRESSED,
         ),
     ],

@@ -1,6 +1,7 @@
 -- What came of pages.
 use Rattle.std.proofs.Common.{◌≡◌, ℕ, Bool, true, false, List, [], ◌∷◌, inl, inr, ◌++◌, Option, Some, None, Result, Ok, Err, refl, sym, ap, ◌∙◌, subst, length, take, drop, ◌<◌, ◌≤◌, append-nil, append_assoc, arith, map, ◌+◌, ◌-◌}
-use Rattle.std.specs.Prelude.{IsOk, IsSorted, MatchResult, ◌⊎◌, ◌||◌, ◌==◌, codes, decimal, nat_eq}
+use Rattle.std.specs.Prelude.{IsOk, IsSorted, MatchResult, ◌⊎◌, ◌&&◌, ◌||◌, ◌==◌, codes, decimal, nat_eq}
+use Rattle.std.specs.Int.{is_in_range}
 use Rattle.std.specs.Ordering.{is_lt}
 use Rattle.std.specs.declared.cmp.Ordering.{Ordering}
 use lib.Pointwise.{pointwise}
@@ -11,7 +12,7 @@ use Rattle.std.proofs.lemmas.Bool.Decides.{nat_tests}
 use Rattle.std.proofs.lemmas.Slice.{take-put_mid}
 use Rattle.std.specs.Io.KnownBytes.{Consumes, IsAtEnd, append_known, prepend_known}
 use Rattle.std.specs.declared.io.ErrorKind.{ErrorKind}
-use Rattle.std.proofs.lemmas.List.{take-append-le, length-take, length-drop, length-append, take-take, get_or-map, length-map}
+use Rattle.std.proofs.lemmas.List.{take-append-le, drop-append-le, length-take, length-drop, length-append, take-take, get_or-map, length-map}
 use Rattle.page_core_base.specs.declared.faults.Fault.{Fault}
 use Rattle.page_core_base.specs.declared.faults.Fault.TheVariants.{WriteText}
 use Rattle.page_core_base.specs.declared.page_settings.Settings.{Settings as PageSettings}
@@ -26,7 +27,7 @@ use Rattle.mandoc_programs.specs.declared.bearings.Bearing.{Bearing}
 use Rattle.mandoc_programs.specs.declared.bearings.Bearing.TheVariants.{NoFault, LeavesOut, KeepsOld}
 use Rattle.mandoc_programs.specs.declared.pages.Form.{Form}
 use Rattle.mandoc_programs.specs.declared.pages.Form.TheVariants as form
-use Rattle.mandoc_programs.specs.Compressed.{is_compressed, is_gzip, is_xz, is_bzip2, is_zstd}
+use Rattle.mandoc_programs.specs.Compressed.{begins_blocks, is_compressed, is_gzip, is_xz, is_bzip2, is_zstd}
 use Rattle.mandoc_formats.specs.Formats.{Tells, line_about, line_end, shown}
 use Rattle.mandoc_programs.specs.Indexes.{Ends, Index, IsAnswered, IsCompressed, IsPlain, OfUnlisted, Part, PutsIn, ReadsPage, Said, after, compressed_line, compressed_text, first_line, puts, unlisted_text}
 use Rattle.mandoc_formats.specs.Turns.{Does}
@@ -55,18 +56,28 @@ take_both n m xs ys e = subst (λ (k : ℕ). take (k + m) (xs ++ ys) ≡ xs ++ t
 begins : (needle head rest : List ℕ) → length needle ≤ length head → pointwise nat_eq needle (take (length needle) (head ++ rest)) ≡ pointwise nat_eq needle (take (length needle) head)
 begins needle head rest h = ap (pointwise nat_eq needle) (take-append-le (length needle) head rest h)
 
-same_head : (head rest : List ℕ) → 5 ≤ length head → is_compressed (head ++ rest) ≡ is_compressed head
+same_blocks : (bytes rest : List ℕ) → 7 ≤ length bytes → begins_blocks (bytes ++ rest) ≡ begins_blocks bytes
+same_blocks [] rest h = absurd (omega (arith, h))
+same_blocks (size ∷ bytes) rest h =
+    let block = begins (0x31 ∷ 0x41 ∷ 0x59 ∷ 0x26 ∷ 0x53 ∷ 0x59 ∷ []) bytes rest (omega (arith, h)) in
+    let end = begins (0x17 ∷ 0x72 ∷ 0x45 ∷ 0x38 ∷ 0x50 ∷ 0x90 ∷ []) bytes rest (omega (arith, h)) in
+    λ i. is_in_range 49 57 size && (block i || end i)
+
+same_head : (head rest : List ℕ) → 10 ≤ length head → is_compressed (head ++ rest) ≡ is_compressed head
 unfolding is_compressed
 same_head head rest h =
     let gzip : is_gzip (head ++ rest) ≡ is_gzip head = begins (0x1F ∷ 0x8B ∷ []) head rest (omega (arith, h)) in
-    let xz : is_xz (head ++ rest) ≡ is_xz head = begins (0xFD ∷ 0x37 ∷ 0x7A ∷ 0x58 ∷ 0x5A ∷ []) head rest (omega (arith, h)) in
-    let bzip2 : is_bzip2 (head ++ rest) ≡ is_bzip2 head = begins (codes "BZh") head rest (omega (arith, h)) in
+    let xz : is_xz (head ++ rest) ≡ is_xz head = begins (0xFD ∷ 0x37 ∷ 0x7A ∷ 0x58 ∷ 0x5A ∷ 0 ∷ []) head rest (omega (arith, h)) in
+    let front = begins (codes "BZh") head rest (omega (arith, h)) in
+    let blocks : begins_blocks (drop 3 (head ++ rest)) ≡ begins_blocks (drop 3 head) =
+    ap begins_blocks (drop-append-le 3 head rest (omega (arith, h))) ∙ same_blocks (drop 3 head) rest (omega (arith, h, length-drop 3 head)) in
+    let bzip2 : is_bzip2 (head ++ rest) ≡ is_bzip2 head = λ i. front i && blocks i in
     let zstd : is_zstd (head ++ rest) ≡ is_zstd head = begins (0x28 ∷ 0xB5 ∷ 0x2F ∷ 0xFD ∷ []) head rest (omega (arith, h)) in
     λ i. gzip i || (xz i || (bzip2 i || zstd i))
 
-whole_or_five : (head rest : List ℕ) → (length head < 5 → rest ≡ []) → is_compressed (head ++ rest) ≡ is_compressed head
-whole_or_five head [] h = ap is_compressed (append-nil head)
-whole_or_five head (byte ∷ rest) h = same_head head (byte ∷ rest) (let n : length head < 5 → ⊥ = λ l. (let e = h l in cc) in omega (arith, n))
+whole_or_ten : (head rest : List ℕ) → (length head < 10 → rest ≡ []) → is_compressed (head ++ rest) ≡ is_compressed head
+whole_or_ten head [] h = ap is_compressed (append-nil head)
+whole_or_ten head (byte ∷ rest) h = same_head head (byte ∷ rest) (let n : length head < 10 → ⊥ = λ l. (let e = h l in cc) in omega (arith, n))
 
 -- more of them are read
 pub read_more : (a b c : Option (List ℕ)) (head buffer : List ℕ) (count more : ℕ) → count ≤ length head → length buffer ≡ length (mid_of count (length head - count) head) → more ≤ length buffer
@@ -83,13 +94,13 @@ read_more a b c head buffer count more within same some h k =
     (omega (arith, long, length-take (count + length buffer) all, some), subst (λ (l : List ℕ). Consumes a c l) (sym both) (Consumes-trans a b c (take count head) (take more buffer) h k))
 
 -- they tell whether it is compressed
-pub head_tells : (before left : Option (List ℕ)) (buffer : List ℕ) (count : ℕ) (answer : Bool) → length buffer ≡ 5 → count ≤ length buffer
+pub head_tells : (before left : Option (List ℕ)) (buffer : List ℕ) (count : ℕ) (answer : Bool) → length buffer ≡ 10 → count ≤ length buffer
     → Consumes before left (take count buffer) → (count < length buffer → IsAtEnd left) → is_compressed (take count buffer) ≡ answer → IsCompressed before answer
-head_tells None left buffer count answer five most h end e = tt
-head_tells (Some all) None buffer count answer five most h end e = absurd h
-head_tells (Some all) (Some rest) buffer count answer five most h end e =
-    let few : length (take count buffer) < 5 → rest ≡ [] = λ l. end (omega (arith, l, length-take count buffer, five, most)) in
-    ap is_compressed h ∙ (whole_or_five (take count buffer) rest few ∙ e)
+head_tells None left buffer count answer ten most h end e = tt
+head_tells (Some all) None buffer count answer ten most h end e = absurd h
+head_tells (Some all) (Some rest) buffer count answer ten most h end e =
+    let few : length (take count buffer) < 10 → rest ≡ [] = λ l. end (omega (arith, l, length-take count buffer, ten, most)) in
+    ap is_compressed h ∙ (whole_or_ten (take count buffer) rest few ∙ e)
 
 -- and are read as the front of the page
 pub reads_after : (before left : Option (List ℕ)) (head : List ℕ) (result : Result (Option PageRecord) Fault) → Consumes before left head

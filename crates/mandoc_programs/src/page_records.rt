@@ -2,7 +2,7 @@
 
 ghost use Rattle.std.specs.Prelude.{◌≡◌, ◌≤◌, ◌<◌, length, take, IfSome};
 ghost use Rattle.std.specs.Io.KnownBytes.{Consumes, IsAtEnd, prepend_known};
-ghost use Rattle.mandoc_programs.specs.Compressed.{is_compressed};
+ghost use Rattle.mandoc_programs.specs.Compressed.{begins_blocks, is_bzip2, is_compressed};
 ghost use Rattle.mandoc_programs.specs.Indexes.{IsFoundIn, IsPlain, ReadsPage};
 
 use page_core_base::{Fault, Settings};
@@ -13,7 +13,7 @@ use std::alloc::Global;
 use std::io::Read;
 
 /// How many bytes tell a page that is compressed.
-const HEAD: usize = 5;
+const HEAD: usize = 10;
 
 /// How often a read is tried.
 const TRIES: u32 = 1_000_000;
@@ -96,7 +96,27 @@ fn is_compressed(bytes: &[u8]) -> bool
     ensures { result ≡ is_compressed bytes.now }
 {
     bytes.starts_with(b"\x1F\x8B")
-        || bytes.starts_with(b"\xFD7zXZ")
-        || bytes.starts_with(b"BZh")
+        || bytes.starts_with(b"\xFD7zXZ\0")
+        || is_bzip2(bytes)
         || bytes.starts_with(b"(\xB5/\xFD")
+}
+
+// Whether it is by bzip2.
+fn is_bzip2(bytes: &[u8]) -> bool
+    ensures { result ≡ is_bzip2 bytes.now }
+{
+    bytes.starts_with(b"BZh") && begins_blocks(&bytes[3..])
+}
+
+// Whether bytes begin with the size of blocks, and the first of them or, where there is none, their end.
+fn begins_blocks(bytes: &[u8]) -> bool
+    ensures { result ≡ begins_blocks bytes.now }
+{
+    match bytes.split_first() {
+        Some((size, rest)) => {
+            matches!(*size, b'1'..=b'9')
+                && (rest.starts_with(b"1AY&SY") || rest.starts_with(b"\x17rE8P\x90"))
+        }
+        None => false,
+    }
 }
