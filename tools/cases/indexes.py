@@ -1,6 +1,6 @@
 """The cases of makewhatis(8), by what its manual says."""
 from cases.parts import (
-    BAD_COMMAND, EMPTY, FSCK, INDEX, LOST_INDEX, LS, MODE, OLD, QUIET, STACK, WHOLE, ZED,
+    BAD_COMMAND, EMPTY, FSCK, INDEX, LONG, LOST_INDEX, LS, MODE, OLD, QUIET, STACK, WHOLE, ZED,
     Case, File, Folder, Link, Locked, Pipe, notes, out,
 )
 
@@ -78,6 +78,8 @@ CASES = {
     ],
     "An entry of the index is taken from the first section NAME of a page, as it would be printed in ASCII, without fonts": [
         page((".TH U 1\n.SH NAME\nu \\- \u00e9\n", "u\t1\te\tman1/p.1\n")),
+        page(("'\\\" t\n.TH U 1\n.SH NAME\nu \\- x\n", "u\t1\tx\tman1/p.1\n")),
+        Case(["makewhatis", "empty"], before={f"empty/man1/{LONG}": QUIET}, after={EMPTY: ONE.replace("t.1", LONG)}, input=QUIET, unread=True),
         page((".TH U 1\n.SH X\na \\- b\n.SH NAME\n\\fBu\\fR, v \\- \\fIx\\fR\n.SH NAME\nc \\- d\n", "u, v\t1\tx\tman1/p.1\n")),
     ],
     "The section of the manual is that of the page's title.": [page((".TH U 3p\n.SH NAME\nu \\- x\n", "u\t3p\tx\tman1/p.1\n"))],
@@ -155,6 +157,7 @@ CASES = {
     "No index is written: each entry is printed, as mandoc-whatis 1 prints it.": [
         Case(["makewhatis", "-n", "."], [out(PRINTED)], before={INDEX: OLD}),
         Case(["makewhatis", "-n", "empty", "."], [out(PRINTED)], before={INDEX: OLD}),
+        Case(["makewhatis", "-n", "link"], [out(PRINTED)], before={"link": Link(".")}),
         Case(
             ["makewhatis", "-n", "."],
             [notes(LOST_CAT), out(PRINTED_WITHOUT_CAT)],

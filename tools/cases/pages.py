@@ -1,5 +1,5 @@
 """The cases of mandoc(1), by what its manual says."""
-from cases.parts import BAD_COMMAND, BLANK, DEEP, FOOT, HEAD, INDEX, MDOC, OLD, QUIET, STACK, TEXT, TWICE, WARNING, Case, Folder, Link, Locked, notes, out
+from cases.parts import BAD_COMMAND, BLANK, DEEP, FOOT, HEAD, INDEX, LONG, MDOC, OLD, QUIET, STACK, TEXT, TWICE, WARNING, Case, Folder, Link, Locked, notes, out
 
 # Pages with a character of two bytes, which are two characters of Latin-1, with a byte that begins none, and with the byte order mark.
 ACCENT = ".TH T 1 2020-01-01 S\n.SH NAME\n\u00e9 \\- x\n"
@@ -18,6 +18,9 @@ BLANK_AT_END = QUIET.replace("x\n", "x \n")
 # Two pages, of which the first defines what the second uses; one of which nothing but the header is in Latin.
 DEFINES, USES = f".ds zz y\n.de ZZ\ny\n..\n{QUIET}", f"{QUIET}\\*(zz\n.ZZ\n"
 OF_USES = 'mandoc: uses.1:4:1: WARNING: undefined string, using "": zz\nmandoc: uses.1:5:2: ERROR: skipping unknown macro: ZZ\n'
+# A page that says that it has tables, and many rows, as they are written and as they come.
+TABLE = f"'\\\" t\n{QUIET}"
+ROWS_SOURCE, ROWS = ".br\ny\n" * 1_000, "       y\n" * 1_000
 # Pages without a source, in either language.
 SOURCELESS, MDOC_SOURCELESS = QUIET.replace(" S\n", "\n"), MDOC.replace(".Os S", ".Os")
 # Macros of either language, on a page of the other one.
@@ -40,12 +43,18 @@ CASES = {
     "Where no file is named, one page is read from the standard input.": [
         Case([], [out(HEAD + TEXT + FOOT)], input=QUIET),
         Case(["-Tlint"], [out("mandoc: <stdin>:4:1: " + WARNING)], 2, input=BLANK),
-        Case(["-"], [notes("mandoc: -: cannot open\n")], 6, input=QUIET),
-        Case(["-"], [out(HEAD + TEXT + FOOT)], input=BLANK, before={"-": QUIET}),
+        Case(["quiet.1"], [out(HEAD + TEXT + FOOT)], input=BLANK, unread=True),
+        Case(["missing.1"], [notes("mandoc: missing.1: cannot open\n")], 6, input=BLANK, unread=True),
+    ],
+    "A file - is a file of that name.": [
+        Case(["-"], [notes("mandoc: -: cannot open\n")], 6, input=QUIET, unread=True),
+        Case(["-"], [out(HEAD + TEXT + FOOT)], input=BLANK, before={"-": QUIET}, unread=True),
     ],
     "Several files are printed one after the other, each from its own start: nothing that one page defines is known to the next.": [
         Case(["blank.1", "quiet.1"], [out(HEAD + TEXT + "\n       y\n" + FOOT + HEAD + TEXT + FOOT)]),
         Case(["-Tlint", "d.1", "uses.1"], [out(OF_USES)], 3, before={"d.1": DEFINES, "uses.1": USES}),
+        Case(["quiet.1"] * 200, [out((HEAD + TEXT + FOOT) * 200)]),
+        Case([LONG, "rows.1"], [out(HEAD + TEXT + FOOT + HEAD + TEXT + ROWS + FOOT)], before={LONG: TABLE, "rows.1": QUIET + ROWS_SOURCE}),
     ],
     "The word that names such a form has to be the first one.": [
         Case(["-Tascii", "makewhatis", "."], [notes("mandoc: makewhatis: cannot open\nmandoc: .: cannot read\n")], 6),
@@ -213,6 +222,7 @@ CASES = {
     ],
     "The file is missing, or may not be read, or an index is not a regular file. The next file follows.": [
         Case(["missing.1", "quiet.1"], [notes("mandoc: missing.1: cannot open\n"), out(HEAD + TEXT + FOOT)], 6),
+        Case([LONG], [notes(f"mandoc: {LONG}: cannot open\n")], 6),
         Case(["missing.1", "quiet.1"], [out(HEAD + TEXT + FOOT)], 6, full="notes"),
         Case(["blank.1", "quiet.1"], [notes("mandoc: blank.1: cannot open\n"), out(HEAD + TEXT + FOOT)], 6, before={"blank.1": Locked}),
     ],

@@ -64,6 +64,8 @@ class Case:
     quits: str = None
     closed: str = ""
     input: str = ""
+    # Whether the standard input is left as it was.
+    unread: bool = False
     # How many bytes a file can have, and whether a write past that is a fault and no signal; how many files can be open; how many bytes of
     # memory there are beside the stack, and of stack.
     most: int = None
@@ -121,4 +123,6 @@ STACK = 512 << 10
 DEEP = QUIET + ".if " + "".join(f"\\w{chr(0x4E00 + number)}" for number in range(900)) + "\n"
 
 LOST_INDEX = "mandoc: ./whatis.idx: cannot write\n"
+# A name of a file, longer than most are.
+LONG = "x" * 200
 BAD_COMMAND = "mandoc: bad command line\n"

@@ -1,9 +1,11 @@
 """Runs of the program that are more than a command line over a folder: a page that is typed, two runs at once, and less and less memory."""
+import ctypes
 import os
 import resource
 import select
 import signal
 import socket
+import struct
 import subprocess
 import tempfile
 import time
@@ -140,6 +142,47 @@ def wrong_of_two_runs(program):
                 run.wait(60)
             for run in both:
                 yield from runs.wrong("at once", run, [WRITTEN, LOST], MANY_INDEX, None)
+
+
+# What the system says of the files in a folder (inotify(7)): one is opened, or closed after it was read; one is made, or takes its name.
+OPENED, CLOSED, MADE, NAMED = 0x20, 0x10, 0x100, 0x80
+
+
+def seen_in(folder, run):
+    """What is seen in a folder while something is run: each name with what came of it, in turn."""
+    library = ctypes.CDLL(None, use_errno=True)
+    watch = library.inotify_init1(os.O_NONBLOCK)
+    library.inotify_add_watch(watch, folder.encode(), OPENED | CLOSED | MADE | NAMED)
+    run()
+    seen, place = os.read(watch, 65_536), 0
+    os.close(watch)
+    while place < len(seen):
+        _, mask, _, size = struct.unpack_from("iIII", seen, place)
+        yield seen[place + 16 : place + 16 + size].rstrip(b"\0").decode(), mask
+        place += 16 + size
+
+
+# Command lines, the folder that is watched, and what is to come of some files in it.
+ONCE = [(name, mask) for name in ("quiet.1", "blank.1") for mask in (OPENED, CLOSED)]
+WATCHED = [
+    (["quiet.1", "blank.1"], ".", ["quiet.1", "blank.1"], ONCE),
+    (["whatis", "old"], ".", [INDEX], [(INDEX, OPENED), (INDEX, CLOSED)]),
+    (["makewhatis", "."], "man8", ["fsck.8"], [("fsck.8", OPENED), ("fsck.8", CLOSED)]),
+    (["makewhatis", "."], ".", [INDEX, "whatis.tmp"], [("whatis.tmp", MADE), ("whatis.tmp", OPENED), (INDEX, NAMED)]),
+]
+
+
+def wrong_of_opening(program):
+    """What is not as it must be where files are opened: each page and each index is opened once, and an index is made once, and takes its name once."""
+    for words, folder, names, wanted in WATCHED:
+        with tempfile.TemporaryDirectory(prefix="cases-") as top:
+            room = f"{top}/room"
+            fill(room, {INDEX: OLD})
+            how = {"cwd": room, "stdin": subprocess.DEVNULL, "stdout": subprocess.DEVNULL, "stderr": subprocess.DEVNULL, "timeout": 60}
+            seen = seen_in(f"{room}/{folder}", lambda: subprocess.run([program, *words], **how))
+            found = [(name, mask) for name, mask in seen if name in names]
+            if found != wanted:
+                yield f"{words}: {found}, and not {wanted}"
 
 
 def given(program, words, room, most):
