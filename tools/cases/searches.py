@@ -1,5 +1,5 @@
 """The cases of whatis(1), by what its manual says."""
-from cases.parts import BAD_COMMAND, INDEX, LOST_INDEX, WHOLE, Case, Folder, Link, Locked, Pipe, notes, out
+from cases.parts import BAD_COMMAND, INDEX, LONG, LOST_INDEX, WHOLE, Case, Folder, Link, Locked, Pipe, notes, out
 
 # An index to look words up in, one of the first version, one with sections in either case, one with a bad line, one with names of files from
 # elsewhere, and those as they are shown.
@@ -9,6 +9,11 @@ CASES_OF_SECTIONS = "whatis 2\nssl\t1SSL\ta tool\tman1/ssl.1SSL\nssl\t1ssl\tanot
 BAD = "whatis 1\nls\t1\tx\na\t1\nls\t2\tx\n"
 FROM_ELSEWHERE = "whatis 2\nls\t1\t\u202ex\t../\x1b\u009b\u061c\u202a\u202e\u2066\u2069\u2028\u2029\U000e0000\U000e007f\u202f\u00e9\n"
 SHOWN = "../???????????\u202f\u00e9\n"
+# One with control characters of each kind in its fields, and as they are shown; characters right beside these are shown as they are.
+WITH_CONTROLS = "whatis 2\nls\x1b]0;t\x07\t1\x00\x1f\t\x7f\u0080\u009f\u00a0 ~\u00c2\u202ex\tman1/ls.1\n"
+SHOWN_CONTROLS = "ls?]0;t?(1??) - ???\u00a0 ~\u00c2\u202ex\n"
+# One with more entries than are printed at once.
+MANY = "whatis 2\n" + "".join(f"ls-{number}\t1\tx\tman1/{number}.1\n" for number in range(2_000))
 
 UNOPENED = "mandoc: ./whatis.idx: cannot open\n"
 
@@ -54,9 +59,16 @@ CASES = {
     ],
     # FILES
     "An index whose first line is whatis 1 has no files.": [found(["ls"], "ls(1) - list files\n", FIRST)],
-    "What is printed of an entry, other than its file, is written as it is in the index": [found(["ls"], "ls(1) - \u202ex\n", FROM_ELSEWHERE)],
+    "What is printed of an entry, other than its file, is written as it is in the index": [
+        found(["ls"], "ls(1) - \u202ex\n", FROM_ELSEWHERE),
+        found(["ls"], "".join(f"ls-{number}(1) - x\n" for number in range(2_000)), MANY),
+    ],
+    "but with ? for each control character": [found(["ls"], SHOWN_CONTROLS, WITH_CONTROLS), found(["-w", "ls"], "man1/ls.1\n", WITH_CONTROLS)],
     # EXIT STATUS
-    "An entry or a file was printed.": [found(["lsof"], "lsof(8) - list open files\n")],
+    "An entry or a file was printed.": [
+        found(["lsof"], "lsof(8) - list open files\n"),
+        Case(["whatis", "lsof"], [out("lsof(8) - list open files\n")], before={INDEX: ENTRIES}, input=ENTRIES, unread=True),
+    ],
     "None was.": [found(["zzz"], ""), found(["ls"], "", "")],
     "The command line is refused; so it is where no word is named, or a word or the directory is empty.": [
         Case(["whatis", *words], [notes(BAD_COMMAND)], 5, before={INDEX: ENTRIES})
@@ -74,6 +86,7 @@ CASES = {
             before={"empty/whatis.idx": ENTRIES, "empty": Locked},
         ),
         Case(["whatis", "-M", "a\u202e", "ls"], [notes("mandoc: a?/whatis.idx: cannot open\n")], 6),
+        Case(["whatis", "-M", LONG, "ls"], [notes(f"mandoc: {LONG}/whatis.idx: cannot open\n")], 6),
     ],
     "Reading the index failed before its end.": [
         Case(["whatis", "ls"], [notes("mandoc: ./whatis.idx: cannot read\n")], 6, before={INDEX: Link("/proc/self/mem")}),

@@ -7,6 +7,7 @@ use Rattle.page_core_base.specs.declared.faults.Fault.TheVariants.{WriteText}
 use Rattle.page_core_streams.specs.Streams.{Adds, AddsInto}
 use Rattle.page_engine_index.specs.Searches.{Rows, Searches}
 use Rattle.page_engine_index.specs.Whatis.{Asked}
+use Rattle.page_engine_index.specs.Written.{visible}
 use Rattle.page_engine_index.specs.declared.queries.Show.{Show}
 use Rattle.page_engine_index.specs.declared.queries.Show.TheVariants as show
 use Rattle.mandoc_command.specs.Line.{Searches as Wanted}
@@ -26,9 +27,9 @@ shown_parts (suc more) bytes =
 abbrev pub shown_row : List ℕ → List ℕ
 shown_row row = let name = length row - 1 in shown_parts name (take name row) ++ drop name row
 
--- a row of an entry is written as it is, and the name of a file as names are shown
+-- a row of an entry is written with a question mark for each control character, and the name of a file as names are shown
 abbrev pub printed : Show → List ℕ → List ℕ
-printed show.Entry row = row
+printed show.Entry row = visible row
 printed show.File row = shown_row row
 
 abbrev pub prints : {W : Type 0} → Show → (W → Option (List ℕ)) → Rows W

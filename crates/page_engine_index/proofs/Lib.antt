@@ -5,3 +5,4 @@ pub mod LineLemmas
 pub mod SearchLemmas
 pub mod LawLemmas
 pub mod CauseLemmas
+pub mod VisibleLemmas

@@ -17,6 +17,7 @@ mod matches;
 mod queries;
 mod records;
 mod searches;
+mod visible_rows;
 
 pub use fields::is_field;
 pub use laws::{first_line_law, match_law, read_back_law};

@@ -6,10 +6,11 @@ ghost use Rattle.std.specs.List.{flat_map};
 ghost use Rattle.page_core_base.specs.laws.Views.{IsSink, Gives, FailsAs};
 ghost use Rattle.page_core_streams.specs.laws.Views.{count_of, adds-sink, adds-whole};
 ghost use Rattle.page_core_streams.specs.Streams.{Adds, AddsInto};
-ghost use Rattle.page_engine_index.specs.Written.{own_bytes};
+ghost use Rattle.page_engine_index.specs.Written.{visible};
 
+use crate::visible_rows::put_row;
 use page_core_base::Fault;
-use page_core_streams::{Target, put_all};
+use page_core_streams::Target;
 
 /// Takes lines of text.
 pub trait LineSink {
@@ -37,7 +38,7 @@ pub trait LineSink {
     ghost whole: { (s t : Self) (xs : List (List ℕ)) → gave s xs t → within s xs t };
 }
 
-/// Writes lines.
+/// Writes lines, with `?` for each control character but the line feed.
 #[derive(Drop)]
 pub struct TextLines<'a, W> {
     out: &'a mut W,
@@ -56,9 +57,9 @@ impl<'a, W: Target> TextLines<'a, W> {
 }
 
 impl<W: Target> LineSink for TextLines<'_, W> {
-    ghost gave = { Adds (λ s. W.contents s.out.now) own_bytes };
+    ghost gave = { Adds (λ s. W.contents s.out.now) visible };
 
-    ghost within = { AddsInto (λ s. W.contents s.out.now) own_bytes };
+    ghost within = { AddsInto (λ s. W.contents s.out.now) visible };
 
     ghost failed = { λ s. count_of W.counts (W.failures s.out.now) s.failures };
 
@@ -66,12 +67,12 @@ impl<W: Target> LineSink for TextLines<'_, W> {
 
     ghost loans = { λ s. s.out.ghost_name };
 
-    ghost laws = { adds-sink (λ s. W.contents s.out.now) own_bytes };
+    ghost laws = { adds-sink (λ s. W.contents s.out.now) visible };
 
-    ghost whole = { adds-whole (λ s. W.contents s.out.now) own_bytes };
+    ghost whole = { adds-whole (λ s. W.contents s.out.now) visible };
 
     fn line(&mut self, parts: &[&[u8]]) -> Result<(), Fault> {
-        if put_all(self.out, parts) {
+        if put_row(self.out, parts) {
             return Ok(());
         }
         self.failures = self.failures.saturating_add(1);

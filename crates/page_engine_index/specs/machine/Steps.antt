@@ -1,5 +1,5 @@
 -- The steps of a run, as the code takes them: a machine of proofs, which no public clause cites.
-use Rattle.std.specs.Prelude.{◌≡◌, ◌<◌, ◌≤◌, ℕ, ◌+◌, List, [], ◌∷◌, ◌++◌, if◌then◌else◌, Option, None, Some, option_map, Result, MatchResult, length, take}
+use Rattle.std.specs.Prelude.{◌≡◌, ◌<◌, ◌≤◌, ℕ, ◌+◌, List, [], ◌∷◌, ◌++◌, Bool, ◌||◌, if◌then◌else◌, Option, None, Some, option_map, Result, MatchResult, length, take}
 use Rattle.std.specs.Borrow.{Bor}
 use Rattle.page_core_base.specs.Messages.{Rose}
 use Rattle.page_core_base.specs.declared.faults.Fault.{Fault}
@@ -9,6 +9,7 @@ use Rattle.page_engine_index.specs.Entries.{Line, Entry, entry_in, Index, with_e
 use Rattle.page_engine_index.specs.Matches.{ends_name}
 use Rattle.page_engine_index.specs.Whatis.{Asked, rows}
 use Rattle.page_engine_index.specs.Searches.{RowsTo}
+use Rattle.page_engine_index.specs.Written.{is_hidden, is_lead}
 use Rattle.page_engine_index.specs.declared.entries.Place.{Place}
 use Rattle.page_engine_index.specs.declared.entries.Version.{Version}
 use Rattle.page_engine_index.specs.declared.entries.Fields.{Fields}
@@ -167,6 +168,10 @@ TakesChunk {L = L} res k q run run' s t chunk = MatchResult res
 unfoldable pub name_len : List ℕ → ℕ
 name_len [] = 0
 name_len (byte ∷ bytes) = if ends_name byte bytes then 0 else 1 + name_len bytes
+
+-- a byte that is written in another way than as it is, or that may be
+abbrev pub is_special : ℕ → Bool
+is_special byte = is_lead byte || is_hidden byte
 
 -- ---- the end of an index
 
