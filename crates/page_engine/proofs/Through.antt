@@ -1,5 +1,5 @@
 -- Parts of a page that follow one another, and what is known where a sink failed.
-use Rattle.std.proofs.Common.{◌≡◌, ℕ, false, Result, Ok, Err, ◌+◌, ◌<◌, ◌≤◌, ◌^◌, List, [], ◌∷◌, ◌++◌, length, take, drop, refl, sym, ap, ◌∙◌, append_assoc, append-nil, arith, length-append, inl, inr}
+use Rattle.std.proofs.Common.{◌≡◌, ℕ, false, Result, Ok, Err, ◌+◌, ◌<◌, ◌≤◌, ◌^◌, List, [], ◌∷◌, ◌++◌, length, take, drop, refl, sym, ap, ◌∙◌, append_assoc, append-nil, arith, length-append, inl, inr, OnOk}
 use Rattle.std.proofs.lemmas.List.{take-append-drop}
 use Rattle.page_core_base.specs.laws.Views.{FailsAs, IsSink, Gives}
 use Rattle.page_core_base.specs.Messages.{Message}
@@ -101,6 +101,11 @@ front_out k rows notes {r} {a} {a'} {n} {b} {b'} laid fault c d = record {
   };
   cause = cause_later fault _ _ _ _ _ _ c.rows_quiet c.notes_quiet d.cause;
 }
+
+-- nothing waits in either
+pub both_out : (res : Result (Unit {0}) Fault) (P Q : Type 0) → P → OnOk res Q → OnOk res (P × Q)
+both_out (Ok _) P Q p q = (p, q)
+both_out (Err fault) P Q p q = tt
 
 -- both sinks in turn, where the rows were put out, and where they were not
 pub rows_out : {R N : Type 0} (k : Sinks R N) → ((r r' : R) (xs : List LaidRow) → k.to.row_gave r xs r' → k.to.row_within r xs r')

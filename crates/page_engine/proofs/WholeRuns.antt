@@ -1,5 +1,5 @@
 -- Whole runs.
-use Rattle.std.proofs.Common.{◌≡◌, ℕ, ◌-◌, ◌^◌, List, [], length, take, inl, inr, Result, Ok, Err, MatchResult, refl, sym, ap, ◌∙◌, arith}
+use Rattle.std.proofs.Common.{◌≡◌, ℕ, ◌-◌, ◌^◌, List, [], length, take, inl, inr, Result, Ok, Err, MatchResult, refl, sym, ap, ◌∙◌, subst, arith}
 use Rattle.std.specs.Io.KnownBytes.{IsAtEnd}
 use Rattle.page_core_base.specs.laws.Views.{IsSink}
 use Rattle.page_core_base.specs.Rows.{Laid, nothing}
@@ -15,20 +15,23 @@ use Rattle.page_roff_lines.proofs.LineAgreement.{lines-one_by_one}
 use Rattle.page_engine.specs.declared.runs.Outcome.{Outcome}
 use Rattle.page_engine.specs.declared.runs.Run.{Run}
 use Rattle.page_engine.specs.laws.States.{IsOpenAt, CannotStart, Ends}
+use Rattle.page_engine.specs.laws.Reads.{IsOut, MayRead}
 use Rattle.page_engine.specs.Edges.{Edge, start}
 use Rattle.page_engine.specs.laws.Views.{counts_at}
 use Rattle.page_engine.specs.Page.{page, settled}
-use Rattle.page_core_streams.specs.laws.Views.{Stops}
+use Rattle.page_core_streams.specs.declared.chunks.Chunks.{Chunks}
+use Rattle.page_core_streams.specs.laws.Views.{AreRead, Stops}
 use Rattle.page_core_base.specs.Messages.{Rose}
 use Rattle.page_core_streams.specs.Streams.{SourceState, IsTooLong}
 use Rattle.page_engine.specs.Runs.{Streams, Sinks, AllCame, FrontCame, RunsOver, Stopped, StoppedBy, BrokeIn, Broken, whole_page, settled_page}
 use Rattle.page_engine.specs.machine.Points.{page_from, settled_from, BrokeFrom, BrokenFrom}
 use Rattle.page_engine.specs.machine.PageSinks.{cause_later}
 use Rattle.page_roff_source.specs.declared.counts.Counts.{Counts}
-use Rattle.page_engine.specs.machine.Steps.{source_lines, TookLast, PutsOut, Finished, Finishes, Through, EndedWell, StoppedFrom, ReadsAll}
+use Rattle.page_engine.specs.machine.Steps.{source_lines, TookLast, PutsOut, Finished, Finishes, Through, EndedWell, StoppedFrom, StartsAt, IsFresh, ReadsAll}
 use Rattle.page_core_streams.proofs.GivenLemmas.{given_none, lean_none}
 use Rattle.page_engine.proofs.BytesRead.{both_gave, both_within, page_last, lines_last}
 use Rattle.page_engine.proofs.Through.{broken_front, broken_end, came_out, front_out}
+use Rattle.page_engine.proofs.LineCounts.{first_none}
 use Rattle.page_engine.proofs.WholeLines.{start_reached, page_end, end_counts}
 
 -- from the start of a page
@@ -37,6 +40,34 @@ page_start s bytes = ap (page (start s)) (sym (lines-one_by_one s.encoding bytes
 
 settled_start : (s : PageSettings) (bytes : List ℕ) → settled_from (start s) (first_point s.encoding) bytes ≡ settled_page s bytes
 settled_start s bytes = ap (settled (start s)) (sym (whole-is s.encoding bytes))
+
+-- before the first byte
+pub starts_fresh : (run : Run) (s : PageSettings) → StartsAt run s → IsFresh run
+starts_fresh run s h = record {
+  room = ap (λ (p : Point). p.line.consumed) h.point;
+  free = h.free;
+  no_line = ap (λ (p : Point). last_line p) h.point ∙ first_none s.encoding;
+  no_lines = h.no_lines;
+}
+
+-- between two chunks a run may read
+pub may_read : {R N : Type 0} (k : Sinks R N) (rows_out : R → Type 0) (notes_out : N → Type 0) {run mid : Run} {r a : R} {n b : N} (source seen : SourceState) (chunks : Chunks)
+    (bytes : List ℕ) (s : PageSettings) → StartsAt run s → AreRead source seen chunks bytes → Through k run mid r a n b bytes → IsOut rows_out notes_out r a n b
+    → MayRead k.to rows_out notes_out mid chunks seen a b
+may_read k rows_out notes_out {run} {mid} {r} {a} {n} {b} source seen chunks bytes s h read t out =
+    let same : settled_from (start s) run.cutter.point bytes ≡ settled_page s bytes = ap (λ (p : Point). settled_from (start s) p bytes) h.point ∙ settled_start s bytes in
+    let d = t.settled (start s) h.at in record {
+      settings = s;
+      bytes = bytes;
+      source = source;
+      rows = r;
+      notes = n;
+      read = read;
+      page = subst (λ (l : Laid Edge). IsOpenAt mid.page l.edge) same d.at;
+      point = t.moved.point ∙ ap (λ (p : Point). point_after p bytes) h.point;
+      came = subst (λ (l : Laid Edge). AllCame k.to r a n b l) same d.came.gave;
+      out = out;
+    }
 
 -- what broke from the first point on is said by lists of lines alone
 broke_start : {R N : Type 0} (j : Streams R N) (r r' : R) (n n' : N) (s : PageSettings) (before own left : List ℕ)

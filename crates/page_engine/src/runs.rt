@@ -1,15 +1,17 @@
 //! A run: the bytes of a source become the rows and messages of a page.
 
-ghost use Rattle.std.specs.Prelude.{◌≡◌, ◌<◌, ◌≤◌, ◌^◌, ℕ, List, length, IfOk, IfErr, Some, true};
+ghost use Rattle.std.specs.Prelude.{◌≡◌, ◌<◌, ◌≤◌, ◌^◌, ℕ, List, length, IfOk, IfErr, OnOk, Some, true};
 ghost use Rattle.std.specs.Io.KnownBytes.{Consumes};
 ghost use Rattle.page_core_base.specs.Settings.{IsGood};
 ghost use Rattle.page_core_streams.specs.Streams.{SourceState};
-ghost use Rattle.page_core_streams.specs.laws.Views.{source_state};
+ghost use Rattle.page_core_streams.specs.laws.Views.{AreRead, IsFewer, ReadsOn, source_state};
+ghost use Rattle.page_core_base.specs.declared.page_settings.Settings.{Settings as PageSettings};
 ghost use Rattle.page_engine.specs.Edges.{Edge};
+ghost use Rattle.page_engine.specs.laws.Reads.{MayRead};
 ghost use Rattle.page_engine.specs.laws.States.{IsOpenAt, CannotStart};
 ghost use Rattle.page_engine.specs.Runs.{writers, Runs, RunsOver};
 ghost use Rattle.page_engine.specs.laws.Views.{RunsIn, sinks};
-ghost use Rattle.page_engine.specs.machine.Steps.{CanTake, TakesPart, TakesChunk, TakesLast, PutsOut, Finishes, StartsAt, IsFresh, ReadsAll};
+ghost use Rattle.page_engine.specs.machine.Steps.{CanTake, TakesPart, TakesChunk, TakesLast, PutsOut, Finishes, StartsAt, ReadsAll};
 
 use crate::pages::Page;
 use page_core_base::{Fault, Level, NoteSink, RowSink, Settings};
@@ -29,6 +31,7 @@ pub struct Outcome {
 fn put_out<R: RowSink, N: NoteSink>(rows: &mut R, notes: &mut N) -> Result<(), Fault>
     ensures puts { PutsOut result (sinks R.gave R.within R.failed N.gave N.within N.failed)
         rows.old rows.new notes.old notes.new }
+    ensures out { OnOk result (R.is_out rows.new × N.is_out notes.new) }
     ensures rows_same { R.loans rows.new ≡ R.loans rows.old }
     ensures notes_same { N.loans notes.new ≡ N.loans notes.old }
 {
@@ -83,7 +86,7 @@ impl Run {
         Ok(count)
     }
 
-    // Takes a chunk of the bytes, gives what its lines settle, and has it put out: nobody knows how long the next read waits.
+    // Takes a chunk of the bytes, gives what its lines settle, and has it put out.
     fn take_chunk<R: RowSink, N: NoteSink>(
         &mut self,
         chunk: &[u8],
@@ -94,6 +97,7 @@ impl Run {
         requires short { length chunk.now ≤ 2 ^ 14 }
         ensures takes { TakesChunk result (sinks R.gave R.within R.failed N.gave N.within N.failed)
             self.old self.new rows.old rows.new notes.old notes.new chunk.now }
+        ensures out { OnOk result (R.is_out rows.new × N.is_out notes.new) }
         ensures rows_same { R.loans rows.new ≡ R.loans rows.old }
         ensures notes_same { N.loans notes.new ≡ N.loans notes.old }
     {
@@ -148,6 +152,26 @@ impl Run {
         put_out(rows, notes)
     }
 
+    // Reads the next chunk of a source, and answers whether there was one. Nothing else reads: since nobody knows how long a read waits, all that the
+    // bytes before it settle has to have come to the sinks by then, and to be put out there.
+    fn next<S: Source, R: RowSink, N: NoteSink>(
+        &self,
+        chunks: &mut Chunks,
+        source: &mut S,
+        rows: &R,
+        notes: &N,
+    ) -> Result<bool, Fault>
+        requires { MayRead (sinks R.gave R.within R.failed N.gave N.within N.failed).to R.is_out N.is_out
+            self.now chunks.old (S.state source.old) rows.now notes.now }
+        ensures reads { (a : SourceState) (bytes : List ℕ) → AreRead a (S.state source.old) chunks.old bytes
+            → ReadsOn result a (S.state source.new) chunks.new bytes }
+        ensures fewer { IsFewer result chunks.old chunks.new }
+        ensures same { S.loans source.new ≡ S.loans source.old }
+    {
+        let _ = (rows, notes);
+        chunks.read(source)
+    }
+
     // Reads all there is, in chunks of any size, and gives the rows and messages of the page. It is a call of its own, so that it reuses the
     // stack pages that `Run::new` touched.
     #[inline(never)]
@@ -157,7 +181,7 @@ impl Run {
         rows: &mut R,
         notes: &mut N,
     ) -> Result<(), Fault>
-        requires { IsFresh self.old }
+        requires { (settings : PageSettings) × StartsAt self.old settings }
         ensures reads { (e : Edge) → IsOpenAt self.old.page e → (bytes : List ℕ)
             × ReadsAll result (sinks R.gave R.within R.failed N.gave N.within N.failed) self.new
             (S.state source.old) (S.state source.new) rows.old rows.new notes.old notes.new
@@ -167,7 +191,7 @@ impl Run {
         ensures notes_same { N.loans notes.new ≡ N.loans notes.old }
     {
         let mut chunks = Chunks::new();
-        while chunks.read(source)? {
+        while self.next(&mut chunks, source, rows, notes)? {
             self.take_chunk(chunks.chunk(), rows, notes)?;
         }
         self.finish(rows, notes)

@@ -1,9 +1,7 @@
-use Rattle.std.proofs.Common.{[], ap, ◌∙◌}
+use Rattle.std.proofs.Common.{[]}
 use Rattle.std.proofs.lemmas.Result.{err_from_is_err_and}
-use Rattle.page_roff_lines.specs.laws.Cutting.{Point, last_line}
 use Rattle.page_engine.specs.Edges.{start}
 use Rattle.page_engine.specs.laws.Views.{sinks}
-use Rattle.page_engine.proofs.LineCounts.{first_none}
 use Rattle.page_engine.proofs.WholeRuns.{runs_not_begun, runs_stopped, runs_well}
 use Rattle.page_engine.proofs.runs.run_sinks.Goals as goal
 
@@ -18,13 +16,7 @@ returns-in_err-run-clause-runs g c =
     )
 
 pub read_all-read-requires : goal.read_all-read-requires
-read_all-read-requires g c =
-    let s = c.in_ok-run.ensures.ok.1 in record {
-      room = ap (λ (p : Point). p.line.consumed) s.point;
-      free = s.free;
-      no_line = ap (λ (p : Point). last_line p) s.point ∙ first_none c.args.settings.now.encoding;
-      no_lines = s.no_lines;
-    }
+read_all-read-requires g c = (c.args.settings.now, c.in_ok-run.ensures.ok.1)
 
 pub returns-in-Ok-clause-runs : goal.returns-in-Ok-clause-runs
 returns-in-Ok-clause-runs g c =

@@ -1,5 +1,6 @@
 use Rattle.std.proofs.Common.{◌≡◌, ℕ, List}
 use Rattle.page_core_streams.specs.laws.Views.{AreRead}
+use Rattle.page_engine.specs.laws.Reads.{IsOut}
 use Rattle.page_engine.specs.laws.Views.{sinks}
 use Rattle.page_engine.specs.machine.Steps.{Through}
 use Rattle.page_engine.proofs.runs.Run.read_all.Given as goal
@@ -13,6 +14,7 @@ invariant-loop-self g l =
     × Through (sinks r.gave r.within r.failed n.gave n.within n.failed) l.fn.self l.self l.fn.rows l.rows l.fn.notes l.notes read
     × (s.loans l.source ≡ s.loans l.fn.source)
     × (r.loans l.rows ≡ r.loans l.fn.rows) × (n.loans l.notes ≡ n.loans l.fn.notes)
+    × IsOut r.is_out n.is_out l.fn.rows l.rows l.fn.notes l.notes
 
 abbrev pub decreases-loop-self : goal.decreases-loop-self
 decreases-loop-self g l = l.chunks.calls_left

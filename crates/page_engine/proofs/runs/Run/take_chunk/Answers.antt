@@ -61,3 +61,6 @@ returns-clause-takes g c =
     let n = g.N.NoteSink in
     rw (all_done c.args.chunk.now i.0 c.loop-rest.rest.now i.1 none)
     (chunk_out (sinks r.gave r.within r.failed n.gave n.within n.failed) g.met.R.RowSink.laws g.met.N.NoteSink.laws _ _ i.0 c.put_out.result i.2 c.put_out.ensures.puts)
+
+pub returns-in_err-count-clause-out : goal.returns-in_err-count-clause-out
+returns-in_err-count-clause-out g c = rw (err_from_is_err_and c.from_residual.result c.from_residual.ensures.1).1 tt
