@@ -22,7 +22,10 @@ HEADS = {
     "1.bz2": b"BZh1\x17rE8P\x90",
     "zst": b"\x28\xb5\x2f\xfd\x04",
 }
-NEARLY = [b"\x1f\x8a", b"\xfd7zXY\0", b"\xfd7zXZ\1", b"BZ", b"BZh", b"BZh01AY&SY", b"BZh:1AY&SY", b"BZh91AY&SX", b"BZh91AY&S", b"\x28\xb5\x2f\xfc"]
+NEARLY = [
+    *(b"\x1f\x8a", b"\xfd7zXY\0", b"\xfd7zXZ\1", b"\x28\xb5\x2f\xfc"),
+    *(b"BZ", b"BZh", b"BZh is text\n", b"BZh01AY&SY", b"BZh:1AY&SY", b"BZh91AY&SX", b"BZh91AY&S"),
+]
 COMPRESSED = {f"empty/man1/{name}.1.{name}": head + QUIET.encode() for name, head in HEADS.items()}
 ONE_COMPRESSED = {"empty/man8/b.8.gz": HEADS["gz"], "empty/man1/t.1": QUIET}
 PASSED_OVER = "mandoc: empty: 5 compressed pages passed over\n"
@@ -90,7 +93,6 @@ CASES = {
     "A file that begins as gzip 1, xz 1, bzip2 1 or zstd 1 writes it is a compressed page, and is passed over.": [
         Case(["makewhatis", "empty"], [notes(PASSED_OVER)], before=COMPRESSED, after={EMPTY: NONE}),
         Case(["makewhatis", "empty"], before={f"empty/man1/{place}.1": head for place, head in enumerate(NEARLY)}, after={EMPTY: NONE}),
-        page(("BZh is text\n.TH U 1\n.SH NAME\nu \\- x\n", "u\t1\tx\tman1/p.1\n")),
     ],
     "The number of such pages in a directory is reported after its other pages.": [
         Case(

@@ -1,3 +1,4 @@
 pub mod AsRows
 pub mod Parts
+pub mod Sent
 pub mod ShownLemmas

@@ -1,5 +1,7 @@
 -- What a command comes to. Source: mandoc(1), makewhatis(8), whatis(1), EXIT STATUS.
-use Rattle.std.specs.Prelude.{◌≡◌, ℕ, List, [], Option}
+use Rattle.std.specs.Prelude.{◌≡◌, ◌<◌, ℕ, List, [], Option, ⊤}
+use Rattle.std.specs.Io.KnownBytes.{append_known}
+use Rattle.page_core_streams.specs.Streams.{Grows}
 use Rattle.mandoc_command.specs.Line.{indexes_of, searches_of}
 use Rattle.mandoc_command.specs.declared.commands.Command.{Command}
 use Rattle.mandoc_command.specs.declared.commands.Command.TheVariants.{Format, Makewhatis, Whatis}
@@ -30,3 +32,19 @@ IsRun finds finds_regular sees failed (Whatis asked) input run = (file : File) �
 abbrev pub ReadsInput : Command → Type 0
 ReadsInput (Format format) = format.files ≡ []
 ReadsInput _ = ⊥
+
+-- ---- over the system's files, of which nothing is known, and over streams with a buffer before each
+
+-- all came but for a rest, which still waited
+abbrev pub FrontCame : (before after : Option (List ℕ)) → (all : List ℕ) → Type 0
+FrontCame before after all = (rest : List ℕ) × Grows before (append_known after rest) all
+
+-- a command was done, with this answer: what it gives came to both streams but for a rest; below the status 6 all of its output
+pub record Ran (failed : Type 0) (command : Command) (input : Option (List ℕ)) (answer : ℕ)
+    (out_before out_after err_before err_after : Option (List ℕ)) : Type 0 where
+  pub run : Run
+  pub is : IsRun (λ _ _. ⊤) (λ _ _. ⊤) (λ _ _. ⊤) failed command input run
+  pub status : answer ≡ run.status
+  pub out : FrontCame out_before out_after run.out
+  pub err : FrontCame err_before err_after run.err
+  pub all : answer < 6 → Grows out_before out_after run.out

@@ -62,10 +62,8 @@ impl<R: Files> Folders for RegularFiles<'_, R> {
             return Ok(None);
         }
         let file = fs::open(self.files, name)?;
-        if is_other(file.metadata()) {
-            return Ok(None);
-        }
-        Ok(Some(file))
+        let is_page = !is_other(file.metadata());
+        Ok(is_page.then_some(file))
     }
 }
 

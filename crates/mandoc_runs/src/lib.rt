@@ -4,7 +4,7 @@
 //! and a folder lists (`RegularFiles`), how an index takes its name, its lock and its mode (`IndexFiles`, `unfinished.rt`), and the numbers of the
 //! standard streams. Runs of the program test that (`tools/program_cases`).
 //!
-//! Proved: `kept_mode`: the mode of an index (`specs/IndexModes.antt`).
+//! Proved: `run_command`: what comes to both streams (`Ran` of `mandoc_programs`). `kept_mode`: the mode of an index (`specs/IndexModes.antt`).
 //!
 //! Read first: `run_command` in `commands.rt`, then `host_files.rt`.
 #![tactic(auto)]

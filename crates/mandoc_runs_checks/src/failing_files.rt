@@ -183,11 +183,11 @@ impl<'a, R: Files + AllocGlobal> Files for FailingFiles<'a, R> {
     type Dir = FailingNames<'a, R::Dir>;
 
     fn open_file(&self, how: &OpenOptions, path: &str) -> io::Result<FailingFile<'a, R::File>> {
-        // (a file that is made where there is one would be another run's)
-        if how.asks_create() && !how.asks_create_new() {
+        // (an unfinished index where there is one already would be another run's)
+        if path.ends_with("whatis.tmp") && how.asks_create() && !how.asks_create_new() {
             return Err(io::Error::from(ErrorKind::Unsupported));
         }
-        self.failure.at(if how.asks_create_new() {
+        self.failure.at(if how.asks_create() || how.asks_create_new() {
             Call::Create
         } else {
             Call::Open

@@ -206,14 +206,14 @@ fn run_over<F: LockedFiles>(
     let Ok(asked) = command(alloc, words) else {
         return 5;
     };
-    let mut out = Journaled {
+    let out = Journaled {
         writer: Writer::Rows,
         journal,
         failure,
         left: fails.rows,
         is_interrupted: false,
     };
-    let mut notes = Journaled {
+    let notes = Journaled {
         writer: Writer::Messages,
         journal,
         failure,
@@ -224,7 +224,7 @@ fn run_over<F: LockedFiles>(
         page: BLANK,
         is_interrupted: false,
     };
-    run_command(files, alloc, &asked, &mut input, &mut out, &mut notes)
+    run_command(files, alloc, &asked, &mut input, out, notes).0
 }
 
 /// What a run gave its writers, and its status.

@@ -168,7 +168,8 @@ impl Run {
         ensures fewer { IsFewer result chunks.old chunks.new }
         ensures same { S.loans source.new ≡ S.loans source.old }
     {
-        let _ = (rows, notes);
+        let _ = rows;
+        let _ = notes;
         chunks.read(source)
     }
 
