@@ -186,8 +186,8 @@ pub fn search_index<S: Source, L: LineSink>(
     search.read_all(source, query, out)
 }
 
-/// Looks for words in an index as [`search_index`] does: reads a reader, and writes the rows to a writer. Where these count their failures, each
-/// fault has its cause.
+/// Looks for words in an index as [`search_index`] does: reads a reader, and writes the rows to a writer, with `?` for each control character in them.
+/// Where these count their failures, each fault has its cause.
 pub fn whatis<I: Input, W: Target>(
     alloc: Global,
     index: &mut I,
