@@ -74,6 +74,8 @@ def widest(text):
 @case("gzip")
 def sections_and_names(program, room):
     hman = hman_in(program, room)
+    write(f"{room}/man/man8/tool.local.8", page("tool.local", "8"))
+    same(hman("-w", "tool.local(8)")[0], f"{room}/man/man8/tool.local.8\n")
     for words in (["-s", "3", "tool"], ["-S", "7:3", "tool"], ["-s", "7,3", "tool"], ["3", "tool"], ["tool.3"], ["tool(3)"], ["3p", "call"], ["call"]):
         same(title(hman(*words)), ("tool(3)", "", 0))
     same(title(hman("tool")), ("tool(1)", "", 0))
@@ -100,9 +102,11 @@ def two_names_of_one_page(program, room):
 @case()
 def wrong_command_lines(program, room):
     hman = hman_in(program, room)
-    for words in (["-Z"], ["--nosuch"], [], ["-s"], ["-s", "3"]):
+    for words, text in ((["-Z"], "there is no option -Z"), (["--nosuch"], "there is no option --nosuch"), ([], "which page?"),
+            (["-s"], "the option -s wants a word"), (["-s", "3"], "which page?"), (["-O", "width=5x", "tool"], "there is no measure width=5x"),
+            (["-O", "width=57", "tool"], "a width is 58 to 300: 57"), (["-O", "indent=21", "tool"], "an indent is 0 to 20: 21")):
         out, said, status = hman(*words)
-        same((out, said.startswith("usage: hman "), status), ("", True, 2))
+        same((out, said.split("\n")[:2][0], said.split("\n")[1][:12], status), ("", f"hman: {text}", "usage: hman ", 2))
     same(hman("-s", "../x", "tool"), ("", "hman: a section is letters and digits: ../x\n", 2))
     same(hman("--help")[1:], ("", 0))
 
@@ -112,7 +116,11 @@ def pages_that_are_not_there(program, room):
     hman = hman_in(program, room)
     same(hman("nosuch"), ("", "hman: no manual entry for nosuch\n", 16))
     same(hman("-s", "3", "git"), ("", "hman: no manual entry for git in section 3\n", 16))
-    same(hman("./nosuch"), ("", "hman: no manual entry for ./nosuch\n", 16))
+    same(hman("./nosuch"), ("", "hman: there is no file ./nosuch\n", 16))
+    same(hman("-l", "nosuch", "man"), ("", "hman: there is no file nosuch\nhman: man is a folder\n", 16))
+    write(f"{room}/man/man1/packed.1.gz", "no gzip")
+    out, said, status = hman("packed")
+    same((out, said.split("\n")[-2], status), ("", f"hman: {room}/man/man1/packed.1.gz: cannot be unpacked, or is too large", 4))
     same(hman("lost"), ("", f"hman: {room}/man/man7/lost.7: there is no man1/nothing.1\n", 3))
     same(hman_in("no-mandoc", room)("tool"), ("", "hman: there is no program no-mandoc: set MANDOC to its path\n", 127))
 
@@ -169,7 +177,7 @@ def pages_of_a_language(program, room):
 @case("gzip")
 def words_and_names(program, room):
     hman = hman_in(program, room)
-    making = f"hman: making an index of {room}/man in {room}/cache/hman{room}/man; 20,000 pages take 40 seconds\n"
+    making = f"hman: making an index of {room}/man in {room}/cache/hman{room}/man; this takes a while\n"
     same(hman("-k", "LIST"), ("tool(3) - a call that lists\n", making, 0))
     same(hman("-f", "tool"), ("tool(1) - x\ntool(3) - a call that lists\n", "", 0))
     same(hman("-s", "1", "-f", "tool"), ("tool(1) - x\n", "", 0))
@@ -177,7 +185,110 @@ def words_and_names(program, room):
     same(hman("-k", "a\\tb"), ("", "hman: nothing appropriate for a\\tb\n", 16))
     write(f"{room}/man/man1/newer.1", page("newer"))
     os.utime(f"{room}/man/man1", (2 ** 31, 2 ** 31))
-    same(hman("-k", "newer"), ("newer(1) - x\n", making, 0))
+    same(hman("-k", "newer"), ("newer(1) - x\n", "", 0))
+
+
+@case("gzip")
+def regular_expressions(program, room):
+    hman = hman_in(program, room)
+    hman("-k", "x")
+    same(hman("-k", "call.*(lists|prints)")[0], "tool(3) - a call that lists\n")
+    same(hman("-k", "^GIT-")[0], "git-commit(1) - x\n")
+    # (what is no regular expression is a plain word, as is a part of a name)
+    same(hman("-k", "tool.conf")[0], "tool.conf(1) - x\n")
+    same(hman("-k", "call (that"), ("", "hman: nothing appropriate for call (that\n", 16))
+    same(hman("-f", "too.*")[2], 16)
+
+
+@case("gzip")
+def names_without_a_file(program, room):
+    hman, man = hman_in(program, room), f"{room}/man"
+    write(f"{man}/man8/tc-codel.8.gz", gzip.compress(page("CoDel", "8", "a queue").encode()))
+    write(f"{man}/man1/Mixed.1", page("Mixed"))
+    # (an index that isn't there yet is not made for a name)
+    same((hman("CoDel")[1:], os.path.exists(f"{room}/cache")), (("hman: no manual entry for CoDel\n", 16), False))
+    same(hman("-k", "queue")[0], "CoDel(8) - a queue\n")
+    for words in (["CoDel"], ["CoDel(8)"], ["8", "CoDel"], ["codel"], ["CODEL(8)"]):
+        same((words, hman("-w", *words)), (words, (f"{man}/man8/tc-codel.8.gz\n", "", 0)))
+    same(hman("-s", "1", "CoDel")[2], 16)
+    for name in ("mixed", "MIXED", "mixed(1)", "TOOL"):
+        same((name, hman(name)[1:]), (name, ("", 0)))
+    same(hman("-w", "-s", "3", "TOOL"), (f"{man}/man3/tool.3.gz\n", "", 0))
+    os.remove(f"{man}/man8/tc-codel.8.gz")
+    same(hman("CoDel")[2], 16)
+
+
+@case()
+def lines_that_name_a_page(program, room):
+    hman, man = hman_in(program, room), f"{room}/man"
+    forms = (".so man1/tool.1", "'so man1/tool.1", ".so\tman1/tool.1", ".  so  man1/tool.1", '.so "man1/tool.1"', ".so man1/tool.1 ", ".so man1/tool.1\r",
+        '.so man1/tool.1 \\" x', ".so tool.1", f".so {man}/man1/tool.1", ".\\\" x\n.so man1/tool.1")
+    for form in forms:
+        write(f"{man}/man1/alias.1", f"{form}\n")
+        same((form, title(hman("alias"))), (form, ("tool(1)", "", 0)))
+    write(f"{man}/man1/part.1", "one part\n")
+    write(f"{man}/man1/whole.1", page("whole") + ".SH MORE\nbefore\n.so man1/part.1\nafter\n")
+    same("before one part after" in hman("whole")[0], True)
+    write(f"{man}/man1/whole.1", page("whole") + ".SH MORE\nbefore\n.so man1/nosuch.1\nafter\n")
+    out, said, status = hman("whole")
+    same(("before after" in out, said, status), (True, f"hman: {man}/man1/whole.1: there is no man1/nosuch.1\n", 3))
+
+
+@case("gzip")
+def pages_that_name_too_much(program, room):
+    hman, man = hman_in(program, room), f"{room}/man"
+    write(f"{room}/secret", "secret\n")
+    for name in ("../secret", f"{room}/secret", "man1/../../secret", "/etc/passwd", "man1", ".", "..", ""):
+        write(f"{man}/man1/alias.1", f".so {name}\n")
+        out, said, status = hman("alias")
+        same((name, out, said.startswith(f"hman: {man}/man1/alias.1: there is no "), status), (name, "", True, 3))
+    write(f"{man}/man1/alias.1", ".so man1/alias.1\n")
+    same(hman("alias"), ("", f"hman: {man}/man1/alias.1: man1/alias.1 names itself\n", 3))
+    for i in range(9):
+        write(f"{man}/man2/n{i}.2", f"n{i}\n" + f".so man2/n{i + 1}.2\n" * 20)
+    out, said, status = hman("n0")
+    same((status, "n5" in out, "n6" in out, len(said.split("\n")) < 9000), (3, True, False, True))
+    write(f"{man}/man1/it's $(touch made).1.gz", gzip.compress(page("odd").encode()))
+    write(f"{man}/man1/alias.1", ".so man1/it's $(touch made).1\n")
+    same((title(hman("alias")), os.path.exists(f"{room}/made")), (("odd(1)", "", 0), False))
+
+
+@case()
+def options_of_man(program, room):
+    hman = hman_in(program, room, MANPATH="/nosuch")
+    man = f"{room}/man"
+    same((hman("-M", man, "-w", "tool"), hman(f"--manpath={man}", "--path", "tool")), ((f"{man}/man1/tool.1\n", "", 0),) * 2)
+    same((hman("--path"), hman("-M", man, "--where")), (("/nosuch\n", "", 0), (f"{man}\n", "", 0)))
+    same((widest(hman("-M", man, "-O", "width=60", "tool")[0]), widest(hman("-M", man, "-O", "width=100,indent=3", "tool")[0])), (60, 100))
+    same("\n   tool - x" in hman("-M", man, "-O", "indent=3", "tool")[0], True)
+    with open(f"{HERE}/../man/mandoc.1", encoding="utf-8") as file:
+        version = next(line.split()[-1] for line in file if line.startswith(".Os "))
+    same((hman("-V"), hman("--version")), ((f"hman {version}\n", "", 0),) * 2)
+
+
+@case("gzip", "perl")
+def filters_that_fail(program, room):
+    os.chmod(write(f"{room}/bin/perl", "#!/bin/sh\ncat\nexit 1\n"), 0o755)
+    hman = hman_in(program, room, PATH=f"{room}/bin:{os.environ['PATH']}")
+    out, said, status = hman("table")
+    same((out[:4], said, status), ("T(1)", "hman: table.7: tblrows.pl failed: what is shown may lack something\n", 4))
+    same(title(hman("tool")), ("tool(1)", "", 0))
+    os.chmod(write(f"{room}/bin/broken", "#!/bin/sh\ncat > /dev/null\nexit 9\n"), 0o755)
+    same(hman_in(f"{room}/bin/broken", room)("tool"), ("", f"hman: tool.1: {room}/bin/broken failed: what is shown may lack something\n", 4))
+
+
+@case("busybox", "gzip")
+def hman_of_busybox(program, room):
+    os.makedirs(f"{room}/bin")
+    for name in subprocess.run(["busybox", "--list"], capture_output=True, text=True, check=True).stdout.split():
+        if not os.path.exists(f"{room}/bin/{name}"):
+            os.symlink(shutil.which("busybox"), f"{room}/bin/{name}")
+    how = hman_in(program, room, PATH=f"{room}/bin").keywords
+    own = write(f"{room}/own.1", page("own") + "\\fB\u00e9\\fR \\fI\u00e9\\fR\n.Lb libc\n")
+    ash = functools.partial(run, f"{room}/bin/ash", HMAN, **{**how, "env": {**how["env"], "LC_ALL": "C.UTF-8"}})
+    dash = hman_in(program, room, LC_ALL="C.UTF-8")
+    for words in (["tool"], ["3", "tool"], ["-w", "-a", "tool"], ["git", "commit"], ["TOOL"], [own], ["-k", "call.*lists"], ["-f", "tool"], ["call"]):
+        same((words, ash(*words)[::2]), (words, dash(*words)[::2]))
 
 
 @case()
@@ -212,7 +323,7 @@ def pagers(program, room):
     same(shown(env={**env, "PAGER": "head -c 7 | tr t T"}), ("Tool(1)", 0))
     # (a pager that quits at once)
     same(shown(env={**env, "PAGER": "true"}), ("", 0))
-    tools = ["sh", "dirname", "readlink", "sed", "cat", "head", "cut", "stty", "tr", "perl", "setsid"]
+    tools = ["sh", "readlink", "sed", "cat", "grep", "mktemp", "rm", "sort", "stty", "tr", "perl", "setsid"]
     for name in filter(shutil.which, tools):
         os.makedirs(f"{room}/bin", exist_ok=True)
         os.symlink(shutil.which(name), f"{room}/bin/{name}")
@@ -220,7 +331,10 @@ def pagers(program, room):
     os.chmod(write(f"{room}/bin/more", "#!/bin/sh\necho more\n"), 0o755)
     same(shown(env={**env, "PATH": f"{room}/bin"}), ("more\n", 0))
     os.chmod(write(f"{room}/bin/less", "#!/bin/sh\necho less $LESS\n"), 0o755)
-    same(shown(env={**env, "PATH": f"{room}/bin"}), ("less FRX\n", 0))
+    text, status = shown(env={**env, "PATH": f"{room}/bin"})
+    same((text.startswith("less -PsManual page tool(1) ?lt"), text.endswith(" or q to quit)$FRX\n"), status), (True, True, 0))
+    text, status = shown(env={**env, "PAGER": "nosuch -x"})
+    same((text.endswith("hman: the pager cannot be run: nosuch -x\n"), status), (True, 4))
 
 
 @case("setsid")
@@ -234,7 +348,7 @@ def columns(program, room):
     for terminal, columns in ((120, 117), (40, 58), (0, 78)):
         same((terminal, widest(in_terminal(terminal, *plain, env=env)[0])), (terminal, columns))
     # (where less was asked to cut rows, it breaks those that are too long for the terminal)
-    narrow = {**env, "PAGER": "echo $LESS", "LESS": "FRSX"}
+    narrow = {**env, "PAGER": "echo ${LESS##*$}", "LESS": "FRSX"}
     same((in_terminal(59, HMAN, "tool", env=narrow)[0], in_terminal(60, HMAN, "tool", env=narrow)[0]), ("FRSX -+S\n", "FRSX\n"))
 
 

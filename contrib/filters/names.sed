@@ -1,88 +1,90 @@
 # For: what pages of mdoc(7) have by name: libraries (Lb), standards (St), versions of AT&T UNIX (At), lp and rp; and Rv without a function's name.
-# Needs: GNU sed.
+# Needs: any sed.
 # Use: LC_ALL=C sed -f names.sed PAGE | mandoc
 
 # Parentheses of functions' types
-/^\.[ \t]*Dd[ \t]/ a\
+/^\.[[:blank:]]*Dd[[:blank:]]/ a\
 .ds lp (\
 .ds rp )
 
-# Libraries: each row puts a title behind a name, and the last two make one argument of both
-/^\.[ \t]*Lb[ \t]/ {
-s/\<libarm\>/&<ARM Architecture Library>/
-s/\<libarm32\>/&<ARM32 Architecture Library>/
-s/\<libbluetooth\>/&<Bluetooth Library>/
-s/\<libbsm\>/&<Basic Security Module Library>/
-s/\<libc\>/&<Standard C Library>/
-s/\<libc_r\>/&<Reentrant C Library>/
-s/\<libcalendar\>/&<Calendar Arithmetic Library>/
-s/\<libcam\>/&<Common Access Method User Library>/
-s/\<libcdk\>/&<Curses Development Kit Library>/
-s/\<libcipher\>/&<FreeSec Crypt Library>/
-s/\<libcompat\>/&<Compatibility Library>/
-s/\<libcrypt\>/&<Crypt Library>/
-s/\<libcurses\>/&<Curses Library>/
-s/\<libdevinfo\>/&<Device and Resource Information Utility Library>/
-s/\<libdevstat\>/&<Device Statistics Library>/
-s/\<libdisk\>/&<Interface to Slice and Partition Labels Library>/
-s/\<libdwarf\>/&<DWARF Access Library>/
-s/\<libedit\>/&<Command Line Editor Library>/
-s/\<libelf\>/&<ELF Access Library>/
-s/\<libevent\>/&<Event Notification Library>/
-s/\<libfetch\>/&<File Transfer Library>/
-s/\<libform\>/&<Curses Form Library>/
-s/\<libgeom\>/&<Userland API Library for Kernel GEOM subsystem>/
-s/\<libi386\>/&<i386 Architecture Library>/
-s/\<libintl\>/&<Internationalized Message Handling Library>/
-s/\<libipsec\>/&<IPsec Policy Control Library>/
-s/\<libiscsi\>/&<iSCSI protocol library>/
-s/\<libjail\>/&<Jail Library>/
-s/\<libkiconv\>/&<Kernel-side iconv Library>/
-s/\<libkse\>/&<N:M Threading Library>/
-s/\<libkvm\>/&<Kernel Data Access Library>/
-s/\<libm\>/&<Math Library>/
-s/\<libm68k\>/&<m68k Architecture Library>/
-s/\<libmagic\>/&<Magic Number Recognition Library>/
-s/\<libmd\>/&<Message Digest (MD4, MD5, etc.) Support Library>/
-s/\<libmemstat\>/&<Kernel Memory Allocator Statistics Library>/
-s/\<libmenu\>/&<Curses Menu Library>/
-s/\<libnetgraph\>/&<Netgraph User Library>/
-s/\<libnetpgp\>/&<Netpgp Signing, Verification, Encryption and Decryption>/
-s/\<libnv\>/&<Name\/value pairs library>/
-s/\<libossaudio\>/&<OSS Audio Emulation Library>/
-s/\<libpam\>/&<Pluggable Authentication Module Library>/
-s/\<libpcap\>/&<Packet capture Library>/
-s/\<libpci\>/&<PCI Bus Access Library>/
-s/\<libpmc\>/&<Performance Counters Library>/
-s/\<libposix\>/&<POSIX Compatibility Library>/
-s/\<libprop\>/&<Property Container Object Library>/
-s/\<libpthread\>/&<POSIX Threads Library>/
-s/\<libpuffs\>/&<puffs Convenience Library>/
-s/\<librefuse\>/&<File System in Userspace Convenience Library>/
-s/\<libresolv\>/&<DNS Resolver Library>/
-s/\<librpcsec_gss\>/&<RPC GSS-API Authentication Library>/
-s/\<librpcsvc\>/&<RPC Service Library>/
-s/\<librt\>/&<POSIX Real-time Library>/
-s/\<libsdp\>/&<Bluetooth Service Discovery Protocol User Library>/
-s/\<libssp\>/&<Buffer Overflow Protection Library>/
-s/\<libtermcap\>/&<Termcap Access Library>/
-s/\<libterminfo\>/&<Terminal Information Library>/
-s/\<libthr\>/&<1:1 Threading Library>/
-s/\<libufs\>/&<UFS File System Access Library>/
-s/\<libugidfw\>/&<File System Firewall Interface Library>/
-s/\<libulog\>/&<User Login Record Library>/
-s/\<libusbhid\>/&<USB Human Interface Devices Library>/
-s/\<libutil\>/&<System Utilities Library>/
-s/\<libvgl\>/&<Video Graphics Library>/
-s/\<libx86_64\>/&<x86_64 Architecture Library>/
-s/\<libz\>/&<Compression Library>/
-s/\<lib\([A-Za-z0-9_]*\)<\([^>]*\)>/"\2 (lib\1, -l\1)"/g
-s/\([ \t]\)\(lib[A-Za-z0-9_+-]*\)$/\1"library \\(lq\2\\(rq"/
+# Libraries: each row puts a title behind a name, and the last three make one argument of both
+/^\.[[:blank:]]*Lb[[:blank:]]/ {
+s/\([[:blank:]]\)\(lib[A-Za-z0-9_+-]*\)/\1<\2>/g
+s/<libarm>/<libarm=ARM Architecture Library>/
+s/<libarm32>/<libarm32=ARM32 Architecture Library>/
+s/<libbluetooth>/<libbluetooth=Bluetooth Library>/
+s/<libbsm>/<libbsm=Basic Security Module Library>/
+s/<libc>/<libc=Standard C Library>/
+s/<libc_r>/<libc_r=Reentrant C Library>/
+s/<libcalendar>/<libcalendar=Calendar Arithmetic Library>/
+s/<libcam>/<libcam=Common Access Method User Library>/
+s/<libcdk>/<libcdk=Curses Development Kit Library>/
+s/<libcipher>/<libcipher=FreeSec Crypt Library>/
+s/<libcompat>/<libcompat=Compatibility Library>/
+s/<libcrypt>/<libcrypt=Crypt Library>/
+s/<libcurses>/<libcurses=Curses Library>/
+s/<libdevinfo>/<libdevinfo=Device and Resource Information Utility Library>/
+s/<libdevstat>/<libdevstat=Device Statistics Library>/
+s/<libdisk>/<libdisk=Interface to Slice and Partition Labels Library>/
+s/<libdwarf>/<libdwarf=DWARF Access Library>/
+s/<libedit>/<libedit=Command Line Editor Library>/
+s/<libelf>/<libelf=ELF Access Library>/
+s/<libevent>/<libevent=Event Notification Library>/
+s/<libfetch>/<libfetch=File Transfer Library>/
+s/<libform>/<libform=Curses Form Library>/
+s/<libgeom>/<libgeom=Userland API Library for Kernel GEOM subsystem>/
+s/<libi386>/<libi386=i386 Architecture Library>/
+s/<libintl>/<libintl=Internationalized Message Handling Library>/
+s/<libipsec>/<libipsec=IPsec Policy Control Library>/
+s/<libiscsi>/<libiscsi=iSCSI protocol library>/
+s/<libjail>/<libjail=Jail Library>/
+s/<libkiconv>/<libkiconv=Kernel-side iconv Library>/
+s/<libkse>/<libkse=N:M Threading Library>/
+s/<libkvm>/<libkvm=Kernel Data Access Library>/
+s/<libm>/<libm=Math Library>/
+s/<libm68k>/<libm68k=m68k Architecture Library>/
+s/<libmagic>/<libmagic=Magic Number Recognition Library>/
+s/<libmd>/<libmd=Message Digest (MD4, MD5, etc.) Support Library>/
+s/<libmemstat>/<libmemstat=Kernel Memory Allocator Statistics Library>/
+s/<libmenu>/<libmenu=Curses Menu Library>/
+s/<libnetgraph>/<libnetgraph=Netgraph User Library>/
+s/<libnetpgp>/<libnetpgp=Netpgp Signing, Verification, Encryption and Decryption>/
+s/<libnv>/<libnv=Name\/value pairs library>/
+s/<libossaudio>/<libossaudio=OSS Audio Emulation Library>/
+s/<libpam>/<libpam=Pluggable Authentication Module Library>/
+s/<libpcap>/<libpcap=Packet capture Library>/
+s/<libpci>/<libpci=PCI Bus Access Library>/
+s/<libpmc>/<libpmc=Performance Counters Library>/
+s/<libposix>/<libposix=POSIX Compatibility Library>/
+s/<libprop>/<libprop=Property Container Object Library>/
+s/<libpthread>/<libpthread=POSIX Threads Library>/
+s/<libpuffs>/<libpuffs=puffs Convenience Library>/
+s/<librefuse>/<librefuse=File System in Userspace Convenience Library>/
+s/<libresolv>/<libresolv=DNS Resolver Library>/
+s/<librpcsec_gss>/<librpcsec_gss=RPC GSS-API Authentication Library>/
+s/<librpcsvc>/<librpcsvc=RPC Service Library>/
+s/<librt>/<librt=POSIX Real-time Library>/
+s/<libsdp>/<libsdp=Bluetooth Service Discovery Protocol User Library>/
+s/<libssp>/<libssp=Buffer Overflow Protection Library>/
+s/<libtermcap>/<libtermcap=Termcap Access Library>/
+s/<libterminfo>/<libterminfo=Terminal Information Library>/
+s/<libthr>/<libthr=1:1 Threading Library>/
+s/<libufs>/<libufs=UFS File System Access Library>/
+s/<libugidfw>/<libugidfw=File System Firewall Interface Library>/
+s/<libulog>/<libulog=User Login Record Library>/
+s/<libusbhid>/<libusbhid=USB Human Interface Devices Library>/
+s/<libutil>/<libutil=System Utilities Library>/
+s/<libvgl>/<libvgl=Video Graphics Library>/
+s/<libx86_64>/<libx86_64=x86_64 Architecture Library>/
+s/<libz>/<libz=Compression Library>/
+s/<lib\([A-Za-z0-9_]*\)=\([^>]*\)>/"\2 (lib\1, -l\1)"/g
+s/<\(lib[A-Za-z0-9_+-]*\)>$/"library \\(lq\1\\(rq"/
+s/<\(lib[A-Za-z0-9_+-]*\)>/\1/g
 }
 
 # Standards, also in the line of another macro
-/^\.\(.*[ \t]\)\{0,1\}St[ \t]\{1,\}-/ {
-s/\([. \t]St[ \t]\{1,\}\)\(-[^ \t]*\)/\1<\2>/
+/^\.\(.*[[:blank:]]\)\{0,1\}St[[:blank:]]\{1,\}-/ {
+s/\([.[:blank:]]St[[:blank:]]\{1,\}\)\(-[^[:blank:]]*\)/\1<\2>/
 s/<-ansiC>/"ANSI X3.159-1989 (\\(lqANSI C89\\(rq)"/
 s/<-ansiC-89>/"ANSI X3.159-1989 (\\(lqANSI C89\\(rq)"/
 s/<-ieee754>/"IEEE Std 754-1985"/
@@ -122,13 +124,13 @@ s/<-xpg3>/"X\/Open Portability Guide Issue 3 (\\(lqXPG3\\(rq)"/
 s/<-xpg4>/"X\/Open Portability Guide Issue 4 (\\(lqXPG4\\(rq)"/
 s/<-xpg4\.2>/"X\/Open Portability Guide Issue 4, Version 2 (\\(lqXPG4.2\\(rq)"/
 s/<-xsh5>/"X\/Open System Interfaces and Headers Issue 5 (\\(lqXSH5\\(rq)"/
-s/\([. \t]St[ \t]\{1,\}\)<\(-[^ \t]*\)>/\1\2/
+s/\([.[:blank:]]St[[:blank:]]\{1,\}\)<\(-[^[:blank:]]*\)>/\1\2/
 }
 
 # Versions of AT&T UNIX
-/^\.[ \t]*At\([ \t]\|$\)/ {
-s/At[ \t]*$/At "AT\&T UNIX"/
-s/At[ \t]\{1,\}\([^" \t]\{1,\}\)/At <\1>/
+/^\.[[:blank:]]*At\([[:blank:]].*\)\{0,1\}$/ {
+s/At[[:blank:]]*$/At "AT\&T UNIX"/
+s/At[[:blank:]]\{1,\}\([^"[:blank:]]\{1,\}\)/At <\1>/
 s/<v1>/"Version 1 AT\&T UNIX"/
 s/<v2>/"Version 2 AT\&T UNIX"/
 s/<v3>/"Version 3 AT\&T UNIX"/
@@ -146,5 +148,5 @@ s/<V\.4>/"AT\&T System V Release 4 UNIX"/
 s/<\([^<>]*\)>/\1/
 }
 
-s/^\.[ \t]*Rv[ \t]*-std[ \t]*$/Upon successful completion, the value 0 is returned;\
+s/^\.[[:blank:]]*Rv[[:blank:]]*-std[[:blank:]]*$/Upon successful completion, the value 0 is returned;\
 otherwise the value \\-1 is returned and the global variable errno is set to indicate the error./
