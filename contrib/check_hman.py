@@ -383,6 +383,12 @@ def completion_of_bash(program, room):
     same(bash("too")[0], "tool\ntool$(touch injected)\ntool.conf\n")
     same((bash("3", "too"), bash("-s", "1"), bash("-w")), (("tool\n", "", 0), ("1\n", "", 0), ("-w\n", "", 0)))
     same(bash("tool$(touch injected)")[0], "tool$(touch injected)\n")
+    # (bash parts a name at its colons)
+    for name in ("Font::TTF::Cvt_", "Font::TTF::Cmap", "Font::Other"):
+        write(f"{room}/man/man3/{name}.3pm", page(name))
+    for words, found in ((["Font", "::", "TTF", "::", "Cv"], "Cvt_\n"), (["Font", "::", "TTF", "::"], "Cmap\nCvt_\n"), (["3", "Font", "::", "O"], "Other\n"),
+            (["Fo"], "Font::Other\nFont::TTF::Cmap\nFont::TTF::Cvt_\n"), (["-l", "too"], "\n")):
+        same((words, bash(*words)[0]), (words, found))
     same(sorted(os.listdir(room)), ["bin", "man"])
 
 
@@ -405,6 +411,9 @@ def completion_of_fish(program, room):
     script = f"source {HERE}/completion/hman.fish; complete -C \"hman $argv\""
     fish = functools.partial(run, "fish", "-N", "-c", script, "--", **how)
     same(fish("too")[0], "tool\ntool$(touch injected)\ntool.conf\n")
+    write(f"{room}/own page.1", page("own"))
+    same(fish("./ow")[0].split("\t")[0].strip(), "./own page.1")
+    os.remove(f"{room}/own page.1")
     same((fish("3 too")[0], fish("-s ")[0].split("\t")[0]), ("tool\n", "1"))
 
 

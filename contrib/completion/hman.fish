@@ -4,6 +4,10 @@
 function __hman_names
     set -l before (commandline -opc)[-1]
     set -l section ''
+    if string match -q '*/*' -- (commandline -ct)
+        __fish_complete_path (commandline -ct)
+        return
+    end
     if string match -qr '^([0-9nl]|[0-9][a-z].*)$' -- $before
         set section $before
     else
@@ -17,7 +21,11 @@ function __hman_names
     end
 end
 complete -c hman -f -a '(__hman_names)'
-complete -c hman -r -F -s l -d 'pages in files'
+complete -c hman -r -F -s l -l local-file -d 'pages in files'
+complete -c hman -x -s M -d 'folders of pages' -a '(__fish_complete_directories)'
+complete -c hman -x -s O -d 'measures of rows' -a 'width= indent='
+complete -c hman -x -s P -d 'the pager'
+complete -c hman -f -s V -l version -d 'the version'
 complete -c hman -f -s a -d 'all pages of a name'
 complete -c hman -f -s w -d 'files in place of pages'
 complete -c hman -f -s k -d 'search names and descriptions'
