@@ -47,6 +47,18 @@ s/^\.if \\n(z\([YZ]\)=1 \(\.ig z\1\)\n.*\1.*$/\2/
 t
 d
 }
+# pages of X define macros of the names of pictures
+/^\.[[:blank:]]*de P[SE]/ {
+s/de P/de xP/
+x
+/P/!s/$/P/
+x
+}
+/^\.P[SE]/ {
+G
+/\n.*P/s/^\./.x/
+s/\n.*//
+}
 # mksh(1) gives Dd another name, to take the date of its revision
 /^\.rn Dd xD$/,/^\.\.$/d
 # pod2man writes a dash by a character that it translates
