@@ -12,6 +12,8 @@ import subprocess
 from rooms import TOP, lines
 from sizes import BOUND
 
+# how much of the book `tools/define_check` computed
+COMPUTED = [f"{what} of the book that cases compute, at least" for what in ("clauses", "branches")]
 PRODUCT = "mandoc_cli"
 FILE = "docs/counts.txt"
 HEAD = """\
@@ -85,9 +87,13 @@ def in_files():
 
 
 def counts_text():
-    """What docs/counts.txt has to say. The bound of lines stays as it is: it is raised by hand."""
-    rows = {**in_files(), BOUND: stated()[BOUND]}
+    """What docs/counts.txt has to say. Bounds stay as they are: that of lines is raised by hand, those of what is computed by `tools/define_check --write`."""
+    rows = {**in_files(), **{name: number for name, number in stated().items() if is_bound(name)}}
     return HEAD + "".join(f"{name}: {number}\n" for name, number in rows.items())
+
+
+def is_bound(name):
+    return name.endswith((", at most", ", at least"))
 
 
 @functools.lru_cache
@@ -101,5 +107,6 @@ def wrong_counts():
     """What docs/counts.txt says otherwise than the files have it."""
     said, there = stated(), in_files()
     for name in {**said, **there}:
-        if name != BOUND and said.get(name) != there.get(name):
+        if not is_bound(name) and said.get(name) != there.get(name):
             yield f"{FILE}: {name}: {said.get(name, 'no number')}, and the files have {there.get(name, 'none')}"
+    yield from (f"{FILE}: it lacks {name}" for name in (BOUND, *COMPUTED) if name not in said)

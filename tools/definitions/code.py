@@ -34,7 +34,7 @@ class Program:
     def __init__(self, crates, kit, given=None):
         self.files = Files(crates, kit, given or values.given())
         self.room = {**vars(values), "keeping": keeping, "Unreadable": Unreadable}
-        self.names, self.counts, self.compiled, self.kept = {}, {}, set(), []
+        self.names, self.counts, self.compiled, self.kept, self.writer = {}, {}, set(), [], Writer
 
     def function(self, path, name):
         """The function of a definition, by its module and its name."""
@@ -73,7 +73,7 @@ class Program:
         if name not in self.compiled:
             self.compiled.add(name)
             readers = [Reader(self.files, declaration, text) for text in declaration.clauses]
-            lines = Writer(self, name).lines(self.counts[name], [(reader, *reader.clause()) for reader in readers])
+            lines = self.writer(self, name).lines(self.counts[name], [(reader, *reader.clause()) for reader in readers])
             self.run("\n".join(lines), name)
 
     def compile_all(self):
@@ -122,10 +122,14 @@ def argument_count(files, declaration):
 
 
 class Writer:
-    """Writes the function of a definition, and those of the functions within its terms."""
+    """Writes the function of a definition, and those of the functions within its terms. `mark` gives a call that notes that a clause is computed, or a branch
+    of an `if` in it: there is none but in coverage.py."""
 
     def __init__(self, program, name):
-        self.program, self.name, self.inner = program, name, 0
+        self.program, self.name, self.inner, self.clause = program, name, 0, None
+
+    def mark(self, _test=None, _branch=None):
+        return ""
 
     def lines(self, count, clauses):
         """A function of so many arguments: the first clause that the arguments fit, computed once if it cites a definition."""
@@ -134,14 +138,15 @@ class Writer:
         is_kept = count == 0 or any(cites(term) for _, _, term in clauses)
         if is_kept:
             lines += self.lookup(self.name, given)
-        for reader, patterns, term in clauses:
+        for at, (reader, patterns, term) in enumerate(clauses):
+            self.clause = reader, at
             if len(reader.outer) + len(patterns) != count:
                 raise Unreadable(f"{reader.module.name}.{reader.name}: its clauses are not of the same length")
             tests, sets = [], dict(zip(reader.outer, given))
             for pattern, place in zip(patterns, given[len(reader.outer):]):
                 fit(pattern, place, tests, sets)
             used = uses(term)
-            lines.append(f"    if {' and '.join(tests) or 'True'}:")
+            lines += [f"    if {' and '.join(tests) or 'True'}:", f"        {self.mark() or 'pass'}"]
             lines += [f"        {name} = {place}" for name, place in sets.items() if name in used]
             self.body(term, "        ", is_kept, lines)
         return [*lines, f"    raise Unreadable('no clause of {self.name} fits')"]
@@ -156,8 +161,9 @@ class Writer:
     def body(self, term, margin, is_kept, lines):
         """The statements that give a term."""
         if term[0] == "if":
-            lines.append(f"{margin}if {self.term(term[1])}:")
+            lines += [f"{margin}if {self.test(term[1])}:", f"{margin}    {self.mark(term[1], 'then') or 'pass'}"]
             self.body(term[2], margin + "    ", is_kept, lines)
+            lines.append(f"{margin}{self.mark(term[1], 'else') or 'pass'}")
             self.body(term[3], margin, is_kept, lines)
         elif term[0] == "let":
             lowered = sunk(*term[1:])
@@ -182,11 +188,26 @@ class Writer:
         if kind == "tuple":
             return f"({''.join(f'{self.term(part)}, ' for part in term[1])})"
         if kind == "if":
-            return f"({self.term(term[2])} if {self.term(term[1])} else {self.term(term[3])})"
+            return f"({self.branch(term, 2, 'then')} if {self.test(term[1])} else {self.branch(term, 3, 'else')})"
         if kind == "field":
             label = f"[{term[2]}]" if term[2].isdigit() else f".{label_name(term[2])}"
             return f"{self.term(term[1])}{label}"
         return getattr(self, f"{kind}_term")(*term[1:])
+
+    def branch(self, term, at, word):
+        marked = self.mark(term[1], word)
+        return f"({marked} or {self.term(term[at])})" if marked else self.term(term[at])
+
+    def test(self, term):
+        """A term of a truth value as a condition of Python."""
+        head, given = term[1:] if term[0] == "apply" else (term, [])
+        what = self.given_test(head, given)
+        return what.term.format(*map(self.test if what.of_tests else self.term, given)) if what else self.term(term)
+
+    def given_test(self, head, given):
+        """The test of the library that a term is, if it has all its arguments."""
+        what = self.program.files.given[head[1].what] if head[0] == "meaning" and head[1].kind == "given" else None
+        return what if what and what.is_test and len(given) == what.count else None
 
     def let_term(self, name, value, body):
         lowered = sunk(name, value, body)
@@ -228,6 +249,8 @@ class Writer:
             return "None"
         if listed(("apply", head, arguments))[0]:
             return self.list_term(("apply", head, arguments))
+        if self.given_test(head, arguments):
+            return f"(YES if {self.test(('apply', head, arguments))} else NO)"
         given = [self.term(it) for it in arguments]
         if meaning.kind == "constructor":
             return self.constructor_term(meaning.name, given)
@@ -254,7 +277,8 @@ class Writer:
         name = f"given_{python_name(meaning.name)}"
         if name not in self.program.room:
             names = [f"a{at}" for at in range(what.count)]
-            self.program.run(f"def {name}({', '.join(names)}):\n    return {what.term.format(*names)}", name)
+            term = what.term.format(*names)
+            self.program.run(f"def {name}({', '.join(names)}):\n    return {f'(YES if {term} else NO)' if what.is_test else term}", name)
         return self.program.by_one(name, what.count) + "".join(f"({it})" for it in given)
 
     def definition_term(self, declaration, given):

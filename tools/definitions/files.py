@@ -1,4 +1,5 @@
-"""Files of definitions: what each declares and brings in, and what a name stands for there. No type and no proof is read.
+"""Files of definitions: what each declares and brings in, and what a name stands for there. No proof is read, and no type but one that is asked
+for as a statement: a record of values then says that all its fields hold, and `×`, `→`, `≡` and `≤` are what they say of values that are there.
 
 A module's name tells where its file is: `Rattle.CRATE.specs.A.B` is `CRATE/specs/A/B.antt` among the crates, or in the kit. What a file passes on
 (`pub use`) is looked for where it comes from. A type of the program (`specs.declared`) has no definitions but its constructors, which
@@ -10,9 +11,15 @@ import re
 # The folders of the logic's own modules, below the kit's folder.
 FOLDERS = {"mathlib": "antt/port/mathlib/src", "native": "antt/lib/native/src"}
 PROOFS = {"proofs", "native"}
+# a statement of the kit for which it has a test, and that test
+TESTS = {("Rattle.core.specs.Str", "IsUtf8"): "is_utf8"}
+# what is built into the logic's own language
+LOGIC = "logic"
 MARKS = re.compile(r"(?:(?:pub|abbrev|unfoldable|pattern|axiom|ghost)\s+)+")
 # a name, its levels if it has some, and a type
 SIGNATURE = re.compile(r"(\S+)(?:\s+\{[^{}]*\})?\s+:\s")
+# the head of a record about values, whose name says that it is a statement
+STATEMENT = re.compile(r"record Is\w+( \(\w+ : [^()]+\))+ : Type 0 where")
 COMMENT = re.compile(r'("(?:[^"\\\n]|\\.)*")|\{-.*?-\}|(?<!\S)--[^\n]*', re.S)
 TOKEN = re.compile(r'"(?:[^"\\]|\\.)*"|[(){};,λ]|\.|[^\s(){};,.λ"]+')
 
@@ -146,10 +153,18 @@ class Files:
         """A type, with its constructors if it has some: names before a colon, in lines that are as far in as the first."""
         head, *lines = text.split("\n")
         module.types.add(head.split()[1])
+        if STATEMENT.fullmatch(head) and all(margin(line) == margin(lines[0]) for line in lines):
+            self.declare_statement(module, head, lines)
         if head.startswith("data"):
             for line in lines:
                 if margin(line) == margin(lines[0]):
                     module.constructors.update(line.partition(" :")[0].split())
+
+    def declare_statement(self, module, head, fields):
+        """A record of statements about values, as the definition of what it says of them: that each of its fields holds."""
+        name, given = head.split()[1], " ".join(re.findall(r"\((\w+) :", head))
+        own = module.own[name] = Declaration(module, name, ())
+        own.clauses.append(f"{name} {given} = {' × '.join('(' + field.partition(' : ')[2] + ')' for field in fields)}")
 
     def declare(self, module, text, parameters, current):
         """A signature begins a definition, and each item after it that is none is a clause of it."""
@@ -164,6 +179,7 @@ class Files:
 
     def meaning(self, module, name):
         """What a name stands for in a module; none if it has no such name."""
+        name = TESTS.get((module.name, name), name)
         if (module.name, name) in self.given:
             return Meaning("given", name, (module.name, name))
         if name in module.own:
@@ -193,10 +209,10 @@ class Files:
         """How tightly an operator binds, and to which side: by a line of the module that declares it."""
         if name in module.fixities:
             return module.fixities[name]
-        path, original = module.brought.get(name, (None, None))
+        path, original = module.brought.get(name, (LOGIC, name))
         if (path, original) in self.given and self.given[path, original].fixity:
             return self.given[path, original].fixity
-        outer = self.module(path) if path else None
+        outer = self.module(path) if path != LOGIC else None
         if outer is None:
             raise Unreadable(f"{module.name}: how tightly {name} binds is not known")
         return self.fixity(outer, original)

@@ -1,4 +1,5 @@
-"""What the definitions give for a page: its rows, its messages and its worst level, by `whole_page`, `row_bytes` and `message_bytes`."""
+"""What the definitions give for a page: its rows, its messages and its worst level, by `whole_page`, `row_bytes` and `message_bytes`; for which settings
+there is one, and the status of a run over it."""
 import os
 import subprocess
 from dataclasses import dataclass
@@ -8,6 +9,9 @@ from .code import Program
 
 TOP = os.path.dirname(os.path.dirname(os.path.dirname(os.path.abspath(__file__))))
 RUNS, STREAMS = "Rattle.page_engine.specs.Runs", "Rattle.page_core_streams.specs.Streams"
+SETTINGS, STATUS = "Rattle.page_core_base.specs.Settings", "Rattle.mandoc_command.specs.Status"
+PAGE, EDGES, LINES = "Rattle.page_engine.specs.Page", "Rattle.page_engine.specs.Edges", "Rattle.page_roff_lines.specs.Lines"
+FAULTS = ("Width", "Indent", "Os")
 # so many results are kept for the next page, as rows of tables that it may name too
 MOST = 1_500_000
 
@@ -41,6 +45,11 @@ class Shown:
     counts: tuple
 
 
+def joined(parts):
+    """What parts of a page give, one after the other: the last has its worst level and its counts."""
+    return Shown(b"".join(part.rows for part in parts), b"".join(part.messages for part in parts), parts[-1].worst, parts[-1].counts)
+
+
 def optional(value):
     return values.constructed("None") if value is None else values.constructed("Some", value)
 
@@ -64,15 +73,41 @@ class Pages:
         self.whole_page = self.program.function(RUNS, "whole_page")
         self.row_bytes = self.program.function(STREAMS, "row_bytes")
         self.message_bytes = self.program.function(STREAMS, "message_bytes")
+        self.settled, self.is_good = self.program.function(PAGE, "settled"), self.program.function(SETTINGS, "IsGood")
+
+    def fault(self, settings):
+        """The first fault for which settings are refused, if they are."""
+        value, is_first = settings.value(), self.program.function(SETTINGS, "IsFirst")
+        return None if self.is_good(value) else next(fault for fault in FAULTS if is_first(value, values.constructed(fault)))
+
+    def status(self, worst):
+        """The status of a run whose messages have this worst level, or none."""
+        return self.program.function(STATUS, "status")(optional(worst and values.constructed(worst)))
 
     def show(self, settings, page, name):
         """What a page of these bytes gives, in a file of this name."""
-        laid = self.whole_page(settings.value(), values.onto(page, None))
+        shown = self.shown(self.whole_page(settings.value(), values.onto(page, None)), name)
+        self.program.forget_many(MOST)
+        return shown
+
+    def show_cut(self, settings, page, name, counts):
+        """What a page gives that goes on after so many of its lines, and then so many more, from what is held there: what these lines settle, each by
+        itself, and the rest of the page."""
+        lines = values.items(self.program.function(LINES, "lines")(settings.value().of_encoding, values.onto(page, None)))
+        edge, found, at = self.program.function(EDGES, "start")(settings.value()), [], 0
+        for count in counts:
+            laid = self.settled(edge, values.onto(lines[at:at + count], None))
+            found.append(self.shown(laid, name))
+            edge, at = laid.of_edge, at + count
+        found.append(self.shown(self.program.function(PAGE, "page")(edge, values.onto(lines[at:], None)), name))
+        self.program.forget_many(MOST)
+        return found, [line.of_number for line in lines]
+
+    def shown(self, laid, name):
         file = values.onto(name.encode(), None)
         rows = [bytes(values.items(self.row_bytes(row))) for row in values.items(laid.of_rows)]
         messages = [bytes(values.items(self.message_bytes(file, note))) for note in values.items(laid.of_notes)]
         worst, roff = laid.of_edge.of_worst, laid.of_edge.of_lines.of_roff
-        self.program.forget_many(MOST)
         return Shown(
             b"".join(rows), b"".join(messages), worst.arguments[0].name if worst.arguments else None,
             (roff.of_source, roff.of_taken, roff.of_memory.of_expansions),

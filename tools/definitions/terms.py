@@ -1,4 +1,4 @@
-"""Terms and patterns of definitions, read from their text. Types, levels and implicit arguments are passed over.
+"""Terms and patterns of definitions, read from their text. Types of names, levels and implicit arguments are passed over.
 
 A term is a tuple that begins with its kind: `local` NAME, `meaning` MEANING, `number` N, `text` TEXT, `apply` TERM TERMS, `if` TERM TERM TERM,
 `let` NAME TERM TERM, `function` NAMES TERM, `record` TERM FIELDS (of a base, or of none), `field` TERM LABEL, `tuple` TERMS. A pattern is `any`,
@@ -7,14 +7,15 @@ A term is a tuple that begins with its kind: `local` NAME, `meaning` MEANING, `n
 """
 import re
 
-from .files import Meaning, TOKEN, Unreadable
+from .files import LOGIC, Meaning, TOKEN, Unreadable
 
 NUMBER = re.compile(r"0x[0-9a-fA-F_]+|\d[\d_]*")
 ESCAPE = re.compile(r"\\(?:u\{([0-9a-fA-F]+)\}|(.))")
 LETTERS = {"n": "\n", "t": "\t", "r": "\r", "0": "\0"}
 ENDS = {")", ",", ";", "}", "then", "else", "in", "="}
-# the built-in proof of what always holds, and the tactic that finds the proof of a bound by facts of numbers
+# the built-in proof of what always holds, the tactic that finds the proof of a bound by facts of numbers, and what statements are made of
 BUILT_IN = {name: Meaning("proof", name) for name in ("tt", "omega", "arith")}
+BUILT_IN |= {name: Meaning("given", name, (LOGIC, name)) for name in ("Unit", "⊥", "◌×◌", "◌→◌")}
 
 
 class Dot(str):
@@ -104,7 +105,7 @@ class Reader:
         word = self.words[self.at]
         if word not in self.module.operators:
             name = f"◌{word}◌"
-            is_known = any(name in names for names in (self.module.brought, self.module.own, self.module.constructors))
+            is_known = any(name in names for names in (self.module.brought, self.module.own, self.module.constructors, BUILT_IN))
             self.module.operators[word] = name if is_known else None
         return self.module.operators[word]
 

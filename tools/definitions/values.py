@@ -1,14 +1,19 @@
 """Values of definitions, and what is given of the kit's library in place of its own text.
 
-A number is Python's, a truth value too; a text of characters is Python's text; a tuple is Python's. `[]` is None and `x ∷ xs` a `Cell`, which
+A number is Python's; a truth value is YES or NO, and not Python's, of which True is equal to 1; a text of characters is Python's text; a tuple is
+Python's. `[]` is None and `x ∷ xs` a `Cell`, which
 knows its length. A constructor with its arguments is a `Constructed`, and a record is of a class by its labels. Equal cells, constructors and
 records are kept once each, so a call is told from others by the identities of its arguments (see `code`). A function is called with one
 argument after another.
 
 What is given here is trusted to be what the kit has under the same name. Numbers, their tests (`nat_eq`, `nat_lt`, `nat_le`, `==`) and `codes`
 are native in the kit, too. Of truth values (`not`, `cond`, `&&`, `||`) and lists (`++`, `length`, `get_or`, `take`, `drop`, `set`, `replicate`, `map`,
-`reverse`) the kit has a text, with which `tools/define_check` compares them on small values.
+`reverse`) the kit has a text, with which `tools/define_check` compares them on small values. Statements about values (`≤`, `≡`, `×`, `→`) are tests.
 """
+
+
+# (of two texts of bytes an empty one is false where Python tests it)
+YES, NO = b"true", b""
 
 
 class Cell:
@@ -108,10 +113,15 @@ def kept_count():
 
 
 class Given:
-    """Something of the library: how many arguments it takes, the Python term for them, how it is written between two, and a function for the term."""
+    """Something of the library: how many arguments it takes, the Python term for them, and how it is written between two. A test gives what Python takes
+    as a condition, and `of_tests` takes it."""
 
-    def __init__(self, count, term, fixity=None, function=None):
-        self.count, self.term, self.fixity, self.function = count, term, fixity, function
+    def __init__(self, count, term, fixity=None, is_test=False, of_tests=False):
+        self.count, self.term, self.fixity, self.is_test, self.of_tests = count, term, fixity, is_test, of_tests
+
+
+def test(count, term, fixity=None, of_tests=False):
+    return Given(count, term, fixity, True, of_tests)
 
 
 def appended(front, back):
@@ -178,13 +188,13 @@ GIVEN = {
         "◌+◌": Given(2, "({} + {})", (65, "l")), "◌-◌": Given(2, "monus({}, {})", (65, "l")), "◌*◌": Given(2, "({} * {})", (70, "l")),
         "◌/◌": Given(2, "quotient({}, {})", (70, "l")), "◌%◌": Given(2, "remainder({}, {})", (70, "l")), "◌^◌": Given(2, "({} ** {})", (75, "r")),
         "min": Given(2, "min({}, {})"), "max": Given(2, "max({}, {})"),
-        "◌≤◌": Given(2, "None", (50, "")), "◌<◌": Given(2, "None", (50, "")),
+        "◌≤◌": test(2, "({} <= {})", (50, "")), "◌<◌": test(2, "({} < {})", (50, "")),
     },
-    "lib.Dec": {"eqb": Given(2, "({} == {})"), "ltb": Given(2, "({} < {})"), "leb": Given(2, "({} <= {})")},
-    "Rattle.core.specs.Bool": {"◌==◌": Given(2, "({} == {})", (40, ""))},
+    "lib.Dec": {"eqb": test(2, "({} == {})"), "ltb": test(2, "({} < {})"), "leb": test(2, "({} <= {})")},
+    "Rattle.core.specs.Bool": {"◌==◌": test(2, "({} == {})", (40, ""))},
     "mathlib.Core.Bool": {
-        "true": Given(0, "True"), "false": Given(0, "False"), "not": Given(1, "(not {})"), "cond": Given(3, "({1} if {0} else {2})"),
-        "◌&&◌": Given(2, "({} and {})", (35, "l")), "◌||◌": Given(2, "({} or {})", (30, "l")),
+        "true": Given(0, "YES"), "false": Given(0, "NO"), "not": test(1, "(not {})", None, True), "cond": Given(3, "({1} if {0} else {2})"),
+        "◌&&◌": test(2, "({} and {})", (35, "l"), True), "◌||◌": test(2, "({} or {})", (30, "l"), True),
     },
     "mathlib.Core.List": {
         "[]": Given(0, "None"), "◌∷◌": Given(2, "cons({}, {})", (67, "r")), "◌++◌": Given(2, "appended({}, {})", (65, "l")),
@@ -195,7 +205,10 @@ GIVEN = {
         "drop": Given(2, "drop({}, {})"), "set": Given(3, "replaced({}, {}, {})"), "replicate": Given(2, "onto([{1}] * {0}, None)"),
     },
     "lib.Chars": {"codes": Given(1, "codes({})")},
-    "mathlib.Core.Path": {"refl": Given(0, "None"), "◌≡◌": Given(2, "None", (4, ""))},
+    "mathlib.Core.Path": {"refl": Given(0, "None"), "◌≡◌": test(2, "({} == {})", (4, ""))},
+    "logic": {
+        "Unit": Given(0, "YES"), "⊥": Given(0, "NO"), "◌×◌": test(2, "({} and {})", (2, "r"), True), "◌→◌": test(2, "(not {} or {})", (1, "r"), True),
+    },
 }
 
 
