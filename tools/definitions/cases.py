@@ -11,6 +11,7 @@ import re
 from . import values
 from .pages import Settings, TOP, joined, optional, record
 from .proving import script
+from .values import changed
 
 # pages that take more than half a minute each: they have so many bytes, lines taken or columns in a row
 MOST_BYTES, MOST_LINES, MOST_COLUMNS = 20_000, 2_100, 1_500
@@ -91,13 +92,15 @@ class Case:
 
 
 class Line(Case):
-    """A page whose lines come one by one (page_engine_cases): each by itself, from what is held before it."""
+    """A page whose lines come one by one (page_engine_cases): each by itself, from what is held before it. Their texts are fed, so that there are no messages
+    about their bytes."""
 
     def given(self, pages):
-        found, numbers = pages.show_cut(self.settings, self.page, "x.1", [1] * self.page.count(b"\n"))
+        lines = [changed(line, ("of_notes",), None) for line in pages.lines(self.settings, self.page)]
+        found = pages.show_cut(self.settings, lines, "x.1", [1] * len(lines))
         texts = [(shown.rows + shown.messages).decode() for shown in found]
         if "each" in self.words:
-            texts = [f"-- line {number}\n{text}" for number, text in zip(numbers, texts)] + texts[len(numbers):]
+            texts = [f"-- line {line.of_number}\n{text}" for line, text in zip(lines, texts)] + texts[len(lines):]
         return "".join(texts) + self.last(found[-1]) + "-- then ended before\n"
 
 
@@ -117,9 +120,9 @@ class Cut:
         with open(self.path, "rb") as file:
             page = file.read()
         settings, wrong = Settings(least="Base"), []
-        whole = pages.show(settings, page, "x.1")
+        whole, lines = pages.show(settings, page, "x.1"), pages.lines(settings, page)
         for count in self.counts:
-            if joined(pages.show_cut(settings, page, "x.1", [count])[0]) != whole:
+            if joined(pages.show_cut(settings, lines, "x.1", [count])) != whole:
                 wrong.append((f"{self.title}, after {count}", "another page\n", "the page\n"))
         return len(self.counts) - len(wrong), 0, wrong
 

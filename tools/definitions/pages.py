@@ -90,10 +90,12 @@ class Pages:
         self.program.forget_many(MOST)
         return shown
 
-    def show_cut(self, settings, page, name, counts):
-        """What a page gives that goes on after so many of its lines, and then so many more, from what is held there: what these lines settle, each by
-        itself, and the rest of the page."""
-        lines = values.items(self.program.function(LINES, "lines")(settings.value().of_encoding, values.onto(page, None)))
+    def lines(self, settings, page):
+        return values.items(self.program.function(LINES, "lines")(settings.value().of_encoding, values.onto(page, None)))
+
+    def show_cut(self, settings, lines, name, counts):
+        """What lines give of which so many, and then so many more, come first, each time from what is held there: what these settle, and the rest of the
+        page."""
         edge, found, at = self.program.function(EDGES, "start")(settings.value()), [], 0
         for count in counts:
             laid = self.settled(edge, values.onto(lines[at:at + count], None))
@@ -101,7 +103,7 @@ class Pages:
             edge, at = laid.of_edge, at + count
         found.append(self.shown(self.program.function(PAGE, "page")(edge, values.onto(lines[at:], None)), name))
         self.program.forget_many(MOST)
-        return found, [line.of_number for line in lines]
+        return found
 
     def shown(self, laid, name):
         file = values.onto(name.encode(), None)

@@ -3,8 +3,8 @@
 A number is Python's; a truth value is YES or NO, and not Python's, of which True is equal to 1; a text of characters is Python's text; a tuple is
 Python's. `[]` is None and `x ∷ xs` a `Cell`, which
 knows its length. A constructor with its arguments is a `Constructed`, and a record is of a class by its labels. Equal cells, constructors and
-records are kept once each, so a call is told from others by the identities of its arguments (see `code`). A function is called with one
-argument after another.
+records are kept once each, so a call is told from others by the identities of its arguments (see `code`); of a long list that grew at its end there may
+be two, and a call is then computed twice. A function is called with one argument after another.
 
 What is given here is trusted to be what the kit has under the same name. Numbers, their tests (`nat_eq`, `nat_lt`, `nat_le`, `==`) and `codes`
 are native in the kit, too. Of truth values (`not`, `cond`, `&&`, `||`) and lists (`++`, `length`, `get_or`, `take`, `drop`, `set`, `replicate`, `map`,
@@ -20,6 +20,18 @@ class Cell:
     __slots__ = ("head", "tail", "size")
 
 
+class Joined(Cell):
+    """A long list with a few items behind it, as one that grows item by item: its cells are made where its head or its tail is asked for."""
+    __slots__ = ("front", "back")
+
+    def __getattr__(self, name):
+        if name not in ("head", "tail"):
+            raise AttributeError(name)
+        whole = onto(items(self.front), self.back)
+        self.head, self.tail = whole.head, whole.tail
+        return getattr(self, name)
+
+
 class Constructed:
     """A constructor with those arguments that it was given so far."""
     __slots__ = ("name", "arguments")
@@ -33,7 +45,9 @@ class Record:
     __slots__ = ()
 
 
-CELLS, CONSTRUCTED, RECORDS, CHANGERS = {}, {}, {}, {}
+CELLS, JOINED, CONSTRUCTED, ALONE, RECORDS, CHANGERS = {}, {}, {}, {}, {}, {}
+# the items of a list from which on it may be joined
+LONG = 100
 
 
 def cons(head, tail):
@@ -53,18 +67,25 @@ def onto(heads, tail):
 
 
 def items(cell):
-    found = []
-    while cell is not None:
-        found.append(cell.head)
-        cell = cell.tail
+    found, behind = [], []
+    while cell is not None or behind:
+        if cell is None:
+            cell = behind.pop()
+        elif type(cell) is Joined:
+            behind.append(cell.back)
+            cell = cell.front
+        else:
+            found.append(cell.head)
+            cell = cell.tail
     return found
 
 
 def constructed(name, *arguments):
-    key = (name, *arguments)
-    if key in CONSTRUCTED:
-        return CONSTRUCTED[key]
-    value = CONSTRUCTED[key] = Constructed()
+    # (one without arguments is never forgotten, since functions name it)
+    kept, key = (CONSTRUCTED, (name, *arguments)) if arguments else (ALONE, name)
+    if key in kept:
+        return kept[key]
+    value = kept[key] = Constructed()
     value.name, value.arguments = name, arguments
     return value
 
@@ -101,12 +122,12 @@ def changed(record, labels, *values):
 
 def forget():
     """Keeps no value any longer."""
-    for kept in (CELLS, CONSTRUCTED, *(make.kept for make in RECORDS.values())):
+    for kept in (CELLS, JOINED, CONSTRUCTED, *(make.kept for make in RECORDS.values())):
         kept.clear()
 
 
 def kept_count():
-    return len(CELLS) + len(CONSTRUCTED)
+    return len(CELLS) + len(JOINED) + len(CONSTRUCTED)
 
 
 # ---- what is given
@@ -125,7 +146,13 @@ def test(count, term, fixity=None, of_tests=False):
 
 
 def appended(front, back):
-    return front if back is None else onto(items(front), back)
+    if front is None or back is None or front.size < LONG or back.size > LONG:
+        return front if back is None else onto(items(front), back)
+    key = (front, back)
+    if key not in JOINED:
+        cell = JOINED[key] = Joined()
+        cell.front, cell.back, cell.size = front, back, front.size + back.size
+    return JOINED[key]
 
 
 def get_or(cell, index, other):
