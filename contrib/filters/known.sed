@@ -28,8 +28,9 @@ s/\\\[ell\]/\\[u2113]/g
 s/\\(mc/\\[u00B5]/g
 s/\\(bv/|/g
 }
-# the rest is about requests and macros
+# the rest is about requests, and macros that begin with P or S
 /^[.']/!b
+/^\.[A-OQRT-Z]/b
 # bash(1) has regions that rbash(1) and bash-builtins(7) leave out: they set a register, and read all of it
 /^\.nr zY 1$/ {
 x
