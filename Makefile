@@ -13,7 +13,7 @@ PROGRAM ?= mandoc
 VERSION := $(shell sed -n 's/^- [*][*]\([0-9.]*\)[*][*].*/\1/p' CHANGELOG.md | head -n 1)
 MAINTAINER ?= nobody <nobody@localhost>
 
-.PHONY: all quick test check edits refusals install install-quick uninstall dist deb clean
+.PHONY: all quick book test check edits refusals install install-quick uninstall dist deb clean
 
 all: mandoc
 
@@ -27,6 +27,10 @@ quick: mandoc-unproved
 
 mandoc-unproved: $(SOURCES) tools/quick
 	@tools/quick $@
+
+# The definitions as linked pages, to be read in a browser: book/index.html.
+book:
+	@tools/book $@
 
 # All cases, in about five minutes: of pages, layers and the program, with no proof of anything. Its last line is 'N passed, M failed'.
 test:
@@ -126,4 +130,4 @@ deb: $(PROGRAM)
 	rm -rf out/deb
 
 clean:
-	rm -rf crates/*/out out mandoc mandoc-unproved
+	rm -rf crates/*/out out mandoc mandoc-unproved book
