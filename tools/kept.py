@@ -12,6 +12,7 @@ import re
 from counts import edits, text_of
 from dependencies import hash_of, of_crate
 from rooms import TOP
+from verdicts import CLAUSE, kind_of
 
 FILE = "edits/verdicts.txt"
 HEAD = "# What refused each edit of edits/, with a hash of all that this depends on: `tools/edits` writes it.\n"
@@ -69,7 +70,7 @@ def in_short(edit, said):
     """What refused an edit: the function or the file of its proof, and the goal that is not proved; else all that the prover said."""
     crate = edit.split("/")[0]
     found = GOAL.match(said.removeprefix("refused, as it must be: "))
-    if not said.startswith("refused, as it must be: ") or not found:
+    if kind_of(said) != CLAUSE or not found:
         return re.sub(r"\s+", " ", said)
     path, line, words, goal = found.groups()
     source = f"crates/{crate}/{path}"

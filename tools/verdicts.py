@@ -12,11 +12,11 @@ COMPILERS = {"": "LLVM", " (built by Rattle's own compiler)": "Rattle's own comp
 
 CRATE = re.compile(r"rt: (\w+)(?:: its tests are)? (proved$|NOT PROVED|is kept: )")
 EDIT = re.compile(r"rt: (?:must-fail )?(\S+): ((?:refused, as it must be|BAD EDIT|NOT TRIED|NOT REFUSED).*)")
-# What is told of an edit, by how it begins.
+# What is told of an edit, by how it begins. (An answer to a goal that is gone names what the edit took away, too.)
 CLAUSE = "refused by a clause"
 KINDS = {
+    "refused only by a name in a proof": r"refused, as it must be(?: \(only because a proof file names|: \S+: error: `[\w-]+`: `goal\.[^`]+`: module `)",
     CLAUSE: r"refused, as it must be(?:$|: )",
-    "refused only by a name in a proof": r"refused, as it must be \(only because a proof file names",
     "refused only by a limit": r"refused, as it must be \(",
     "not refused": "NOT REFUSED",
     "not tried": "NOT TRIED",
@@ -26,6 +26,11 @@ RAN = re.compile(r"rt: (\w+) ran( \(built by Rattle's own compiler\))?, and wrot
 TESTED = re.compile(r"test result: \w+\. (\d+) passed; (\d+) failed")
 BEGUN = re.compile(r"== (\w+)")
 NOTE = re.compile(r"rt: note: (Rattle's own compiler did not compile this program, .*)")
+
+
+def kind_of(said):
+    """The kind of what was said of an edit."""
+    return next(kind for kind, begins in KINDS.items() if re.match(begins, said))
 
 
 class Verdicts:
@@ -58,7 +63,7 @@ class Verdicts:
 
     def kinds(self):
         """The kind of what was said of each edit."""
-        return {edit: next(kind for kind, begins in KINDS.items() if re.match(begins, said)) for edit, said in self.said.items()}
+        return {edit: kind_of(said) for edit, said in self.said.items()}
 
     def refused(self):
         """How many edits a clause refused."""
