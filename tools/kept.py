@@ -9,7 +9,7 @@ import functools
 import os
 import re
 
-from counts import edits, text_of
+from counts import edits, stated, text_of
 from dependencies import hash_of, of_crate
 from rooms import TOP
 from verdicts import CLAUSE, kind_of
@@ -17,6 +17,8 @@ from verdicts import CLAUSE, kind_of
 FILE = "edits/verdicts.txt"
 HEAD = "# What refused each edit of edits/, with a hash of all that this depends on: `tools/edits` writes it.\n"
 REFUSED = "refused: "
+# how many edits may lack a verdict: a bound in docs/counts.txt, which is only lowered
+UNTRIED = "edits without a verdict that holds, at most"
 # what the prover said of an edit: the file, the line, and the goal that is not proved
 GOAL = re.compile(r"(?:note: )?(?:\./)?(\S+?):(\d+):\d+: (?:error: |note: )?([^`]*(?:`([^`]+)`)?.*)")
 
@@ -85,9 +87,10 @@ def stale():
 
 
 def wrong_verdicts():
-    """What is wrong with the file: the edits of each crate without a verdict that holds, those that no clause refused, and those that are gone."""
+    """What is wrong with the file: more edits without a verdict that holds than there may be, those that no clause refused, and those that are gone."""
     there, missing = set(edits_of()), collections.Counter(edit.split("/")[0] for edit in stale())
-    yield from (f"{FILE}: {count} edits of {crate} have no verdict, or a stale one: make edits CRATES={crate}" for crate, count in missing.items())
+    if missing.total() > stated().get(UNTRIED, 0):
+        yield from (f"{FILE}: {count} edits of {crate} have no verdict, or a stale one: make edits CRATES={crate}" for crate, count in missing.items())
     for edit, (_, said) in kept().items():
         if edit not in there:
             yield f"{FILE}: there is no edit {edit}"
