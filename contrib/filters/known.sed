@@ -2,6 +2,14 @@
 # Needs: any sed.
 # Use: LC_ALL=C sed -f known.sed PAGE | mandoc
 
+# what is kept is of one page, and sed -i has several
+1 {
+x
+s/.*//
+x
+t begin
+}
+: begin
 /\\/ {
 # characters by their numbers
 /\\N'/ {
