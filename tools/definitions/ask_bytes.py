@@ -47,7 +47,9 @@ class Core:
     def printed(self, printing, is_glyph):
         if printing.of_unknown is NONE:
             return f" [{text_of_characters(printing.of_characters)}]"
-        return f" no {'glyph' if is_glyph else 'spelling of'} {text_of(printing.of_unknown.arguments[0])}"
+        # (of a control character no name is shown)
+        name = text_of(printing.of_unknown.arguments[0])
+        return f" no {'glyph' if is_glyph or not name else 'spelling of'} {name}"
 
     def show_glyph(self, name):
         found = option(self.asked.call("page_core_tables.Glyphs.glyph_of", listed(name)))
