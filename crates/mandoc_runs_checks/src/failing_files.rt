@@ -31,8 +31,10 @@ pub enum Call {
     Sync,
     /// A file is given another name.
     Rename,
-    /// Rows or messages are written or put out.
+    /// Rows or messages are written, or put out after that.
     Print,
+    /// Rows or messages are put out, and none were written. (This one fails only where it is named, since nothing is lost by it.)
+    PutNone,
     /// It is looked at what has a name. (This one fails only where it is named, since most programs go on after it.)
     Look,
     /// It is looked at what has a name, be it a link.
@@ -67,7 +69,7 @@ impl Failure {
     pub fn at(&self, call: Call) -> io::Result<()> {
         let counts = match self.call {
             Some(wanted) => wanted == call,
-            None => call != Call::Look,
+            None => !matches!(call, Call::Look | Call::PutNone),
         };
         if self.has_come.get() || !counts {
             return Ok(());

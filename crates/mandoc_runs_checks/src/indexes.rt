@@ -49,7 +49,7 @@ const PAGES: &[Run] = &[
     Run {
         words: &["makewhatis", "."],
         fails: NEVER,
-        written: &[],
+        written: &["[notes flushed]"],
         status: 0,
         index: Index {
             before: Some(OLD),
@@ -92,9 +92,9 @@ fn makes_an_index(rt: HostRuntime) {
 // Command lines whose calls fail in turn, and how many calls there are at least: files are opened, listed, read, made, locked, looked at, written,
 // brought to the disk and renamed, and rows and messages are written and put out.
 const LINES: &[(&[&str], u32)] = &[
-    (&["quiet.1"], 8),
-    (&["-Tlint", "blank.1"], 8),
-    (&["-Wall", "blank.1"], 8),
+    (&["quiet.1"], 6),
+    (&["-Tlint", "blank.1"], 6),
+    (&["-Wall", "blank.1"], 6),
     (&["makewhatis", "-n", "."], 20),
     (&["makewhatis", "."], 30),
     (&["whatis", "old"], 4),

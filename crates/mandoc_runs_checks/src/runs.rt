@@ -149,6 +149,8 @@ struct Journaled<'a> {
     failure: &'a Failure,
     // How many flushes there are before one that fails.
     left: Option<u32>,
+    // Whether bytes were written since the last one.
+    waits: bool,
     is_interrupted: bool,
 }
 
@@ -178,12 +180,18 @@ impl Write for Journaled<'_> {
             return Err(io::Error::from(ErrorKind::Interrupted));
         }
         self.failure.at(Call::Print)?;
+        self.waits = true;
         log_bytes(self.journal, self.writer, bytes)?;
         Ok(bytes.len())
     }
 
     fn flush(&mut self) -> io::Result<()> {
-        self.failure.at(Call::Print)?;
+        self.failure.at(if self.waits {
+            Call::Print
+        } else {
+            Call::PutNone
+        })?;
+        self.waits = false;
         if let Some(left) = self.left {
             let Some(rest) = left.checked_sub(1) else {
                 return Err(io::Error::from(ErrorKind::StorageFull));
@@ -211,6 +219,7 @@ fn run_over<F: LockedFiles>(
         journal,
         failure,
         left: fails.rows,
+        waits: false,
         is_interrupted: false,
     };
     let notes = Journaled {
@@ -218,6 +227,7 @@ fn run_over<F: LockedFiles>(
         journal,
         failure,
         left: fails.messages,
+        waits: false,
         is_interrupted: false,
     };
     let mut input = Typed {
