@@ -93,10 +93,10 @@ fn makes_an_index(rt: HostRuntime) {
 // brought to the disk and renamed, and rows and messages are written and put out.
 const LINES: &[(&[&str], u32)] = &[
     (&["quiet.1"], 6),
-    (&["-Tlint", "blank.1"], 6),
+    (&["-Tlint", "blank.1"], 5),
     (&["-Wall", "blank.1"], 6),
-    (&["makewhatis", "-n", "."], 20),
-    (&["makewhatis", "."], 30),
+    (&["makewhatis", "-n", "."], 18),
+    (&["makewhatis", "."], 25),
     (&["whatis", "old"], 4),
     (&["whatis", "-w", "old"], 4),
 ];
