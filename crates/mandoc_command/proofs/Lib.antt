@@ -1,5 +1,1 @@
 mod LineLemmas
-mod NumberLemmas
-mod PartLemmas
-mod SettingLemmas
-mod WantedRows

@@ -1,4 +1,2 @@
 pub mod AsLists
-pub mod Lists
 pub mod Turns
-pub mod Waits

@@ -1,11 +1,20 @@
 -- What came of names in turn.
-use Rattle.std.proofs.Common.{◌≡◌, ℕ, Bool, true, false, List, [], ◌∷◌, Option, refl, sym, ap, ◌∙◌, subst, drop, length, ◌<◌, ◌≤◌, ◌+◌, get_or, map}
+use Rattle.std.proofs.Common.{◌≡◌, ℕ, Bool, true, false, List, [], ◌∷◌, Option, refl, sym, ap, ◌∙◌, subst, drop, length, ◌<◌, ◌≤◌, ◌+◌, get_or, map, arith, max, nat_cmp, ◌++◌, Some, None, inl, inr, take, take-append-drop, append_assoc}
 use Rattle.std.specs.Bool.{MatchBool}
-use Rattle.std.proofs.lemmas.List.{drop_more}
+use Rattle.std.proofs.lemmas.List.{drop_more, take-take, drop-take}
 use Rattle.std.proofs.Math.ListN.{drop_of_length-le}
-use Rattle.page_core_streams.specs.Streams.{Grows}
-use Rattle.page_core_streams.specs.laws.Views.{Grows-nil, Grows-append}
-use Rattle.mandoc_formats.specs.Turns.{Came, InTurn, Does, and_then}
+use Rattle.page_core_streams.specs.Streams.{Grows, GrowsInto}
+use Rattle.page_core_streams.specs.laws.Views.{Grows-nil, Grows-append, FailsBy, Writes}
+use Rattle.mandoc_formats.specs.Turns.{Came, InTurn, Does, and_then, does_stop, worse as join}
+use Rattle.std.specs.Prelude.{◌==◌, codes, decimal}
+use Rattle.std.specs.Ordering.{ord_max}
+use Rattle.page_core_base.specs.declared.page_settings.Settings.{Settings as PageSettings}
+use Rattle.page_core_base.specs.declared.page_settings.Output.{Output}
+use Rattle.page_core_base.specs.declared.page_settings.Output.TheVariants as output
+use Rattle.mandoc_formats.specs.declared.faults.Done.{Done}
+use Rattle.mandoc_formats.specs.Formats.{File, Page, Formatted, IsFile, FormatsAll, Tells, page_out, page_err, Did, IsPutOut, HasFailed, fault_text, line_about, line_end}
+use Rattle.std.specs.Io.KnownBytes.{Keeps}
+use Rattle.page_core_base.specs.declared.faults.Fault.TheVariants as fault
 
 pub at_bool : (b c : Bool) (P Q : Type 0) → b ≡ c → MatchBool c P Q → MatchBool b P Q
 at_bool b c P Q e h = subst (λ (x : Bool). MatchBool x P Q) (sym e) h
@@ -69,3 +78,112 @@ module _ {E X : Type 0} (join : E → E → E) (stops : E → Bool) (is : List �
     h.err,
     h.ended,
   )
+
+-- ---- What came to streams, and the names of a command.
+
+-- what several left, of which none stopped the command
+abbrev pub left : ℕ → Done
+left worst = record { status = worst; stops = false }
+
+-- ---- the names of a command
+
+pub no_names : {X : Type 0} (f : X → List ℕ) (xs : List X) (names : List (List ℕ)) → map f xs ≡ names → (length xs == 0) ≡ true → names ≡ []
+no_names f [] names e t = sym e
+no_names f (x ∷ xs) names e t = grind arith
+
+pub some_names : {X : Type 0} (f : X → List ℕ) (xs : List X) (names : List (List ℕ)) → map f xs ≡ names → (length xs == 0) ≡ false → 0 < length names
+some_names f [] names e t = grind arith
+some_names f (x ∷ xs) names e t = subst (λ (l : List (List ℕ)). 0 < length l) e (omega arith)
+
+pub formats_none : (finds : List ℕ → Option (Option (List ℕ)) → Type 0) (failed : Type 0) (settings : PageSettings) (names : List (List ℕ)) (input : Option (List ℕ)) (file : File)
+    → names ≡ [] → Formatted failed settings (codes "<stdin>") input file → FormatsAll finds failed settings names input file
+unfolding FormatsAll
+formats_none finds failed settings names input file e h = subst (λ (l : List (List ℕ)). FormatsAll finds failed settings l input file) (sym e) h
+
+pub formats_some : (finds : List ℕ → Option (Option (List ℕ)) → Type 0) (failed : Type 0) (settings : PageSettings) (names : List (List ℕ)) (input : Option (List ℕ)) (file : File)
+    → 0 < length names → InTurn join does_stop (IsFile finds failed settings) names (start (left 0)) file → FormatsAll finds failed settings names input file
+unfolding FormatsAll
+formats_some finds failed settings [] input file l h = absurd (omega (arith, l))
+formats_some finds failed settings (name ∷ names) input file l h = h
+
+pub worse : (a b : ℕ) → ord_max nat_cmp a b ≡ max a b
+worse a b = grind arith
+
+pub left_so : (worst worst' : ℕ) (done : Done) → worst' ≡ ord_max nat_cmp worst done.status → done.stops ≡ false → join (left worst) done ≡ left worst'
+left_so worst worst' done m e = λ i. record { status = sym (m ∙ worse worst done.status) i; stops = e i }
+
+pub done_is : (done : Done) (status : ℕ) (stops : Bool) → done.status ≡ status → done.stops ≡ stops → done ≡ record { status = status; stops = stops }
+done_is done status stops e f = λ i. record { status = e i; stops = f i }
+
+-- ---- what is known below the status of a failure
+
+pub none_below : (status : ℕ) (put_out : Type 0) → status ≡ 6 → status < 6 → put_out
+none_below status put_out e l = absurd (omega (arith, e, l))
+
+-- rows and messages where the messages are not wanted alone
+pub plain_out : (page : Page) (kind : Output) → (kind ≡ output.Lint → ⊥) → (page_out kind page ≡ page.rows) × (page_err kind page ≡ page.notes)
+plain_out page output.Lint n = absurd (n refl)
+plain_out page _ n = (refl, refl)
+
+pub put_out_last : (worst worst' status : ℕ) (a b : List ℕ) → worst' ≡ ord_max nat_cmp worst status → IsPutOut status a b → IsPutOut worst' a b
+put_out_last worst worst' status a b m h l = let e = m ∙ worse worst status in h (omega (arith, e, l))
+
+-- a line about a file came, or a front of it
+pub reported : (is : File → Type 0) (done : Done) (a c d : Option (List ℕ)) (text : List ℕ) (put_out failed : Type 0) (line : Tells failed c d text)
+    → is (record { out = []; err = line.part; end = done }) → done.status ≡ 6 → Did is done a a c d put_out
+reported is done a c d text put_out failed line it six =
+    (record { out = []; err = line.part; end = done }, it, Grows-nil a, line.grows, refl, none_below done.status put_out six)
+
+pub past_first : {X : Type 0} (xs : List X) (i : ℕ) → (length xs == 0) ≡ false → length xs ≤ i → 0 < i
+past_first [] i t h = grind arith
+past_first (x ∷ xs) i t h = omega (arith, h)
+
+-- ---- Bytes that wait for a writer.
+
+pub take_plus : (n m : ℕ) (xs : List ℕ) → n + m ≤ length xs → take n xs ++ take m (drop n xs) ≡ take (n + m) xs
+take_plus n m xs h =
+    ap (λ l. l ++ take m (drop n xs)) (sym (take-take n (n + m) xs (omega arith)))
+    ∙ (ap (λ l. take n (take (n + m) xs) ++ l) (sym (drop-take n m xs)) ∙ take-append-drop n (take (n + m) xs))
+
+pub keeps_grown : (a b c : Option (List ℕ)) (xs : List ℕ) → Grows a b xs → Keeps b c → Grows a c xs
+keeps_grown None b c xs g k = tt
+keeps_grown (Some us) None c xs g k = absurd g
+keeps_grown (Some us) (Some vs) None xs g k = absurd k
+keeps_grown (Some us) (Some vs) (Some ws) xs g k = k ∙ g
+
+-- a writer whose failures are not counted
+pub uncounted : {S : Type 0} (failures : S → ℕ) (s : S) → HasFailed false failures
+uncounted failures s = record { before = s; after = s; rose = tt }
+
+-- a call that failed
+pub failed_by : {S : Type 0} (counts : Bool) (failures : S → ℕ) (r : Bool) (s t : S) → FailsBy counts r (failures s) (failures t) → r ≡ false → HasFailed counts failures
+failed_by counts failures true s t h e = absurd (cc)
+failed_by counts failures false s t h e = record { before = s; after = t; rose = h }
+
+-- ---- several writes
+
+pub writes_on : (r : Bool) (a b c : Option (List ℕ)) (xs ys : List ℕ) → Grows a b xs → Writes r b c ys → Writes r a c (xs ++ ys)
+writes_on true a b c xs ys g w = Grows-append a b c xs ys g w
+writes_on false a b c xs ys g w = record {
+  done = xs ++ w.done;
+  rest = w.rest;
+  parts = ap (λ l. xs ++ l) w.parts ∙ sym (append_assoc xs w.done w.rest);
+  grows = Grows-append a b c xs w.done g w.grows;
+}
+
+pub ended_before : (a b : Option (List ℕ)) (xs ys : List ℕ) → GrowsInto a b xs → GrowsInto a b (xs ++ ys)
+ended_before a b xs ys h = record { done = h.done; rest = h.rest ++ ys; parts = ap (λ l. l ++ ys) h.parts ∙ append_assoc h.done h.rest ys; grows = h.grows }
+
+pub tells : (r : Bool) (failed : Type 0) (a b : Option (List ℕ)) (xs : List ℕ) → Writes r a b xs → (r ≡ false → failed) → Tells failed a b xs
+tells true failed a b xs w f = record { part = xs; told = inl refl; grows = w }
+tells false failed a b xs w f = record { part = w.done; told = inr (f refl, (w.rest, w.parts)); grows = w.grows }
+
+-- ---- lines about files
+
+-- of what has a name below a directory
+pub line_parts : (dir name text : List ℕ) → line_about (dir ++ name) text ≡ (codes "mandoc: " ++ dir) ++ line_end name text
+line_parts dir name text = ap (λ l. codes "mandoc: " ++ l) (append_assoc dir name (codes ": " ++ (text ++ 10 ∷ [])))
+
+-- of a line of an index
+pub bad_line : (name : List ℕ) (line : ℕ) → line_end name (fault_text (fault.BadIndex line)) ≡ name ++ (codes ": line " ++ (decimal line ++ codes ": bad index\n"))
+bad_line name line = ap (λ l. name ++ (codes ": line " ++ l)) (append_assoc (decimal line) (codes ": bad index") (10 ∷ []))

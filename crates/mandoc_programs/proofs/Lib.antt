@@ -1,4 +1,2 @@
 pub mod AsRows
 pub mod Parts
-pub mod Sent
-pub mod ShownLemmas

@@ -1,5 +1,5 @@
 -- What came of pages.
-use Rattle.std.proofs.Common.{◌≡◌, ℕ, Bool, true, false, List, [], ◌∷◌, inl, inr, ◌++◌, Option, Some, None, Result, Ok, Err, refl, sym, ap, ◌∙◌, subst, length, take, drop, ◌<◌, ◌≤◌, append-nil, append_assoc, arith, map, ◌+◌, ◌-◌}
+use Rattle.std.proofs.Common.{◌≡◌, ℕ, Bool, true, false, List, [], ◌∷◌, inl, inr, ◌++◌, Option, Some, None, Result, Ok, Err, refl, sym, ap, ◌∙◌, subst, length, take, drop, ◌<◌, ◌≤◌, append-nil, append_assoc, arith, map, ◌+◌, ◌-◌, zero, suc}
 use Rattle.std.specs.Prelude.{IsOk, IsSorted, MatchResult, ◌⊎◌, ◌&&◌, ◌||◌, ◌==◌, codes, decimal, nat_eq}
 use Rattle.std.specs.Int.{is_in_range}
 use Rattle.std.specs.Ordering.{is_lt}
@@ -12,7 +12,7 @@ use Rattle.std.proofs.lemmas.Bool.Decides.{nat_tests}
 use Rattle.std.proofs.lemmas.Slice.{take-put_mid}
 use Rattle.std.specs.Io.KnownBytes.{Consumes, IsAtEnd, append_known, prepend_known}
 use Rattle.std.specs.declared.io.ErrorKind.{ErrorKind}
-use Rattle.std.proofs.lemmas.List.{take-append-le, drop-append-le, length-take, length-drop, length-append, take-take, get_or-map, length-map}
+use Rattle.std.proofs.lemmas.List.{take-append-le, drop-append-le, length-take, length-drop, length-append, take-take, get_or-map, length-map, drop_at, take_at}
 use Rattle.page_core_base.specs.declared.faults.Fault.{Fault}
 use Rattle.page_core_base.specs.declared.faults.Fault.TheVariants.{WriteText}
 use Rattle.page_core_base.specs.declared.page_settings.Settings.{Settings as PageSettings}
@@ -31,6 +31,10 @@ use Rattle.mandoc_programs.specs.Compressed.{begins_blocks, is_compressed, is_gz
 use Rattle.mandoc_formats.specs.Formats.{Tells, line_about, line_end, shown}
 use Rattle.mandoc_programs.specs.Indexes.{Ends, Index, IsAnswered, IsCompressed, IsPlain, OfUnlisted, Part, PutsIn, ReadsPage, Said, after, compressed_line, compressed_text, first_line, puts, unlisted_text}
 use Rattle.mandoc_formats.specs.Turns.{Does}
+use Rattle.mandoc_programs.specs.Commands.{FrontCame}
+use Rattle.std.specs.Str.{chars}
+use Rattle.std.specs.Str.Lossy.{utf8_valid_len, utf8_invalid_len}
+use Rattle.mandoc_programs.specs.Searches.{shown_parts}
 
 pub said : (failed : Type 0) (line : List ℕ) (end result : Result Tally Fault) (a c d : Option (List ℕ)) → Tells failed c d line → result ≡ end
     → Does (Said failed line end) result a a c d
@@ -163,3 +167,56 @@ count_line count n =
 
 pub some_compressed : (name : List ℕ) (count : ℕ) → (count ≡ 0 → ⊥) → compressed_line name count ≡ line_about name (compressed_text count)
 some_compressed name count n = let e : (count == 0) ≡ false = grind (arith, nat_tests) in rw e refl
+
+-- ---- What came through a buffer, in which nothing waited before.
+
+pub front_came : (a b : Option (List ℕ)) (waits rest all : List ℕ) → waits ≡ [] → Grows (append_known a waits) (append_known b rest) all → FrontCame a b all
+front_came None b waits rest all n h = (rest, tt)
+front_came (Some xs) None waits rest all n h = absurd h
+front_came (Some xs) (Some ys) waits rest all n h = (rest, h ∙ ap (λ l. l ++ all) (ap (λ l. xs ++ l) n ∙ append-nil xs))
+
+pub all_came : (a b : Option (List ℕ)) (waits rest all : List ℕ) → waits ≡ [] → rest ≡ [] → Grows (append_known a waits) (append_known b rest) all → Grows a b all
+all_came None b waits rest all n e h = tt
+all_came (Some xs) None waits rest all n e h = absurd h
+all_came (Some xs) (Some ys) waits rest all n e h =
+    sym (ap (λ l. ys ++ l) e ∙ append-nil ys) ∙ (h ∙ ap (λ l. l ++ all) (ap (λ l. xs ++ l) n ∙ append-nil xs))
+
+-- ---- Names of files as they are shown.
+
+-- a text and what is no text come off the front
+pub parts_more : (most : ℕ) (bytes text other rest : List ℕ) → bytes ≡ text ++ (other ++ rest) → length text ≡ utf8_valid_len bytes
+    → length other ≡ utf8_invalid_len (drop (utf8_valid_len bytes) bytes) → length rest < length bytes → length bytes ≤ most
+    → (fewer : ℕ) × (length rest ≤ fewer) × (shown_parts most bytes ≡ (shown text ++ other) ++ shown_parts fewer rest)
+parts_more zero bytes text other rest parts valid invalid less within = absurd (omega (arith, less, within))
+parts_more (suc fewer) bytes text other rest parts valid invalid less within =
+    let n = utf8_valid_len bytes in
+    let m = utf8_invalid_len (drop n bytes) in
+    let front : take n bytes ≡ text = ap (take n) parts ∙ take_at text (other ++ rest) n valid in
+    let after : drop n bytes ≡ other ++ rest = ap (drop n) parts ∙ drop_at text (other ++ rest) n valid in
+    let middle : take m (drop n bytes) ≡ other = ap (take m) after ∙ take_at other rest m invalid in
+    let back : drop m (drop n bytes) ≡ rest = ap (drop m) after ∙ drop_at other rest m invalid in
+    (fewer, omega (arith, less, within), (λ i. shown (front i) ++ (middle i ++ shown_parts fewer (back i))) ∙ sym (append_assoc (shown text) other (shown_parts fewer rest)))
+
+-- nothing is left
+nil_take : (n : ℕ) → take {A = ℕ} n [] ≡ []
+nil_take zero = refl
+nil_take (suc n) = refl
+
+nil_drop : (n : ℕ) → drop {A = ℕ} n [] ≡ []
+nil_drop zero = refl
+nil_drop (suc n) = refl
+
+shown_nil : shown [] ≡ []
+unfolding chars
+shown_nil = refl
+
+pub parts_none : (most : ℕ) (bytes : List ℕ) → length bytes ≡ 0 → shown_parts most bytes ≡ []
+parts_none zero bytes none = refl
+parts_none (suc fewer) (byte ∷ bytes) none = absurd (omega (arith, none))
+parts_none (suc fewer) [] none =
+    let n = utf8_valid_len [] in
+    let m = utf8_invalid_len (drop n []) in
+    (λ i. shown (nil_take n i) ++ (take m (nil_drop n i) ++ shown_parts fewer (drop m (nil_drop n i))))
+    ∙ ((λ i. shown_nil i ++ (nil_take m i ++ shown_parts fewer (nil_drop m i))) ∙ parts_none fewer [] refl)
+
+-- ---- a row

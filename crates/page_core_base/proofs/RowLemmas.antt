@@ -1,12 +1,13 @@
 -- A search in rows, one after another, and in lists of rows by their first letter.
-use Rattle.std.proofs.Common.{◌≡◌, ap, sym, arith, refl, ℕ, zero, suc, ◌+◌, ◌<◌, Bool, true, false, ◌&&◌, List, [], ◌∷◌, ◌++◌, length, get_or, drop, drop-cons, map, Option, Some, None, cond, Bor, ◌∙◌, eqb, inl, inr}
+use Rattle.std.proofs.Common.{◌≡◌, ap, sym, arith, refl, ℕ, zero, suc, ◌+◌, ◌<◌, Bool, true, false, ◌&&◌, List, [], ◌∷◌, ◌++◌, length, get_or, drop, drop-cons, map, Option, Some, None, cond, Bor, ◌∙◌, eqb, inl, inr, take}
 use Rattle.std.proofs.lemmas.Bool.{cases_Bool, and_parts, eqb-true, cond-true, cond-false, false_from_ne_true}
 use Rattle.std.proofs.lemmas.Slice.Eq.{bytes_eq-Decides}
 use Rattle.std.specs.List.{list_all}
 use Rattle.std.specs.Option.{option_or}
 use Rattle.std.specs.Str.{bytes_eq}
 use Rattle.page_core_base.specs.Messages.{row_in}
-use Rattle.page_core_base.specs.laws.Views.{letter_of}
+use Rattle.page_core_base.specs.laws.Views.{letter_of, cells_in}
+use Rattle.page_core_base.specs.declared.cells.Font.{Font}
 
 -- rows of the program as values
 abbrev pub seen : {V : Type 0} → List (Bor (List ℕ) × V) → List (List ℕ × V)
@@ -93,3 +94,20 @@ row_of_rows lists table name stand same =
     ap (λ rows. row_in rows name) (list_view lists (letter_of name))
     ∙ sym (row_by_letter 0 (table_view lists) name (letter_of name) stand (omega arith))
     ∙ ap (λ rows. row_in rows name) same
+
+-- ---- Characters and their fonts, one for each cell.
+
+next : (cs : List ℕ) (fonts : List Font) (i c : ℕ) (font : Font) → i < length cs → length fonts ≡ length cs
+    → cells_in (take (suc i) cs) (take (suc i) fonts) ≡ cells_in (take i cs) (take i fonts) ++ record { c = get_or cs i c; font = get_or fonts i font } ∷ []
+next [] fonts i c font within sizes = absurd (omega (arith, within))
+next (b ∷ cs) [] i c font within sizes = absurd (omega (arith, sizes))
+next (b ∷ cs) (f ∷ fonts) zero c font within sizes = refl
+next (b ∷ cs) (f ∷ fonts) (suc i) c font within sizes =
+    ap (λ cells. record { c = b; font = f } ∷ cells) (next cs fonts i c font (omega (arith, within)) (omega (arith, sizes)))
+
+-- the cells up to the next character
+pub cells-more : (cs : List ℕ) (fonts : List Font) (i c : ℕ) (font : Font) → i < length cs → length fonts ≡ length cs
+    → cells_in (take (i + 1) cs) (take (i + 1) fonts) ≡ cells_in (take i cs) (take i fonts) ++ record { c = get_or cs i c; font = get_or fonts i font } ∷ []
+cells-more cs fonts i c font within sizes =
+    let more : i + 1 ≡ suc i = omega arith in
+    ap (λ n. cells_in (take n cs) (take n fonts)) more ∙ next cs fonts i c font within sizes

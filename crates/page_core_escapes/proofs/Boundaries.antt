@@ -1,23 +1,28 @@
 -- An escape ends where a character ends.
-use Rattle.std.proofs.Common.{◌≡◌, ℕ, suc, ◌+◌, ◌<◌, true, false, eqb, nat_eq, List, [], ◌∷◌, ◌++◌, length, take, drop, get_or, Option, Some, None, option_map, refl, sym, ap, subst, ◌∙◌, arith, position, codes, add-zero}
+use Rattle.std.proofs.Common.{◌≡◌, ℕ, suc, ◌+◌, ◌<◌, true, false, eqb, nat_eq, List, [], ◌∷◌, ◌++◌, length, take, drop, get_or, Option, Some, None, option_map, refl, sym, ap, subst, ◌∙◌, arith, position, codes, add-zero, ◌-◌, ◌≤◌, unwrap_or, ap₂, inl, inr, add-one, take-take, zero, Bool, cond}
 use Rattle.std.specs.Option.{option_and_then}
 use Rattle.std.specs.List.{starts_with}
 use Rattle.std.specs.Str.{IsUtf8, IsCharBoundary}
 use Rattle.std.proofs.Math.Utf8.{encode}
-use Rattle.std.proofs.lemmas.Bool.{cond_both, eqb-true}
+use Rattle.std.proofs.lemmas.Bool.{cond_both, eqb-true, cases_Bool, cond-true, cond-false}
 use Rattle.std.proofs.lemmas.Bool.Decides.{Decides-eqb, nat_tests}
 use Rattle.std.proofs.lemmas.Slice.Eq.{starts_is}
-use Rattle.std.proofs.lemmas.List.{drop-drop, length-drop, length-append, get_or-drop}
+use Rattle.std.proofs.lemmas.List.{drop-drop, length-drop, length-append, get_or-drop, length-take-le, drop-take}
 use Rattle.std.proofs.lemmas.List.Quantifiers.{position-Some}
-use Rattle.std.proofs.lemmas.Str.{IsUtf8-drop, IsUtf8-past_char, IsCharBoundary-after_ascii}
+use Rattle.std.proofs.lemmas.Str.{IsUtf8-drop, IsUtf8-past_char, IsCharBoundary-after_ascii, IsUtf8-take, IsCharBoundary-before_ascii, IsUtf8-nil}
 use Rattle.page_core_base.specs.Bytes.{is_sign, is_among}
 use Rattle.page_core_escapes.specs.declared.letters.Shape.{Shape}
 use Rattle.page_core_escapes.specs.declared.letters.Shape.TheVariants.{Alone, Glyph, Name, Size, Quoted}
 use Rattle.page_core_escapes.specs.declared.extents.Extent.{Extent}
 use Rattle.page_core_escapes.specs.declared.extents.Extent.TheVariants.{Whole, QuotedFrom}
-use Rattle.page_core_escapes.specs.Lengths.{letter_of, after_sign, begins_size, shape_of, character_len, two_characters_len, bracketed_len, name_len, has_two_digits, number_len, sign_len, number_extent, extent_by, extent_of, quoted_len, extent_len, escape_len_by, content_len_within, content_len, escape_len}
-use Rattle.page_core_escapes.proofs.LetterLemmas.{follows, shape_ascii}
-use Rattle.page_core_escapes.proofs.Characters.{CutsAt, CutsAt-add, CutsAt-ascii, Taken, character_len-taken, begins_with}
+use Rattle.page_core_escapes.specs.Lengths.{letter_of, after_sign, begins_size, shape_of, character_len, two_characters_len, bracketed_len, name_len, has_two_digits, number_len, sign_len, number_extent, extent_by, extent_of, quoted_len, extent_len, escape_len_by, content_len_within, content_len, escape_len, shape_before}
+use Rattle.page_core_escapes.proofs.Contents.{follows, shape_ascii, letter_ascii, character_len-fits, escape_len-none, escape_len-whole, escape_len-quoted}
+use Rattle.page_core_escapes.proofs.Unwinding.{CutsAt, CutsAt-add, CutsAt-ascii, Taken, character_len-taken, begins_with, CutsAt-boundary, character_len-encode}
+use Rattle.std.proofs.Math.Seq.{take-append-add}
+use Rattle.page_core_escapes.specs.Meanings.{without_last, bare_name, bare_quoted, Face, roman, italic, bold, bold_italic, former, unknown, glyph, face, face_of, bracketed, names_code_point, argument_of, meaning_by, meaning_of, read_escape, escape_of}
+use Rattle.page_core_escapes.specs.declared.letters.LetterKind.{LetterKind}
+use Rattle.page_core_escapes.specs.declared.letters.LetterKind.TheVariants as means
+use Rattle.page_core_escapes.specs.laws.Views.{HasTexts}
 
 -- ---- steps over ASCII
 
@@ -267,3 +272,273 @@ escape_len_cuts t n utf8 ascii = go (extent_of false t) (extent_of_cuts t utf8 a
     go None cuts = λ k e. cc
     go (Some (Whole m)) cuts = λ k e. let same : m ≡ k = cc in subst (CutsAt t) same (cuts (Whole m) refl)
     go (Some (QuotedFrom m)) cuts = inner m (cuts (QuotedFrom m) refl) (quoted_len false (content_len false) (drop m t)) (quoted_cut (drop m t) (cuts (QuotedFrom m) refl).utf8)
+
+-- ---- The arguments of an escape in UTF-8 are in UTF-8.
+
+-- ---- names
+
+-- a name's first byte, and the rest of it
+pub take_first : (b : ℕ) (bs : List ℕ) (n k : ℕ) → k + 1 ≡ n → take n (b ∷ bs) ≡ b ∷ take k bs
+take_first b bs n k e = ap (λ n. take n (b ∷ bs)) (sym e ∙ add-one k)
+
+pub bare_name-paren : (b : ℕ) (bs : List ℕ) → b ≡ 0x28 → bare_name (b ∷ bs) ≡ bs
+bare_name-paren b bs is = ap (λ b. bare_name (b ∷ bs)) is
+
+pub bare_name-bracket : (b : ℕ) (bs : List ℕ) → b ≡ 0x5B → bare_name (b ∷ bs) ≡ without_last bs
+bare_name-bracket b bs is = ap (λ b. bare_name (b ∷ bs)) is
+
+bare_name-other : (b : ℕ) (bs : List ℕ) → eqb b 0x28 ≡ false → eqb b 0x5B ≡ false → bare_name (b ∷ bs) ≡ b ∷ bs
+bare_name-other b bs paren bracket = cond-false _ _ _ paren ∙ cond-false _ _ _ bracket
+
+-- a name takes bytes
+pub name_len-some : (t : List ℕ) (n : ℕ) → name_len false t ≡ Some n → 0 < n
+name_len-some [] n e = cc
+name_len-some (b ∷ bs) n e =
+    elim (cases_Bool (eqb b 0x28)) [
+      | inl paren ↦ more (two_characters_len false bs) (sym (cond-true _ _ _ paren) ∙ e)
+      | inr no_paren ↦
+          elim (cases_Bool (eqb b 0x5B)) [
+            | inl bracket ↦ more (bracketed_len bs) (sym (cond-false _ _ _ no_paren ∙ cond-true _ _ _ bracket) ∙ e)
+            | inr no_bracket ↦ (character_len-fits (b ∷ bs) n (sym (cond-false _ _ _ no_paren ∙ cond-false _ _ _ no_bracket) ∙ e)).0
+          ]
+    ]
+  where
+    more : (o : Option ℕ) → option_map (λ k. k + 1) o ≡ Some n → 0 < n
+    more None e = cc
+    more (Some k) e = let same : k + 1 ≡ n = cc in omega arith
+
+-- up to the bracket that closes
+bracketed_text : (t : List ℕ) (n : ℕ) → IsUtf8 t → bracketed_len t ≡ Some n → IsUtf8 (without_last (take n t))
+bracketed_text t n utf8 e = go (position (λ b. eqb b 0x5D) t) (λ k is. position-Some (λ b. eqb b 0x5D) t k 0 is) e
+  where
+    go : (o : Option ℕ) → ((k : ℕ) → o ≡ Some k → (k < length t) × (eqb (get_or t k 0) 0x5D ≡ true) × ((j : ℕ) → j < k → eqb (get_or t j 0) 0x5D ≡ false)) → option_map (λ k. k + 1) o ≡ Some n → IsUtf8 (without_last (take n t))
+    go None found e = cc
+    go (Some k) found e =
+        let same : k + 1 ≡ n = cc in
+        let here = found k refl in
+        let lt = here.0 in
+        let size : length (take n t) ≡ n = length-take-le n t (omega arith) in
+        let less : length (take n t) - 1 ≡ k = omega arith in
+        let bracket = eqb-true (get_or t k 0) 0x5D here.1 in
+        let shorter : without_last (take n t) ≡ take k t = ap (λ m. take m (take n t)) less ∙ take-take k n t (omega arith) in
+        subst (λ u. IsUtf8 u) (sym shorter) (IsUtf8-take t k utf8 (IsCharBoundary-before_ascii t k lt (omega arith)))
+
+pub bare_name_text : (t : List ℕ) (n : ℕ) → IsUtf8 t → name_len false t ≡ Some n → IsUtf8 (bare_name (take n t))
+bare_name_text [] n utf8 e = cc
+bare_name_text (b ∷ bs) n utf8 e =
+    elim (cases_Bool (eqb b 0x28)) [
+      | inl paren ↦
+          let is = eqb-true b 0x28 paren in
+          let rest = CutsAt-ascii b bs utf8 (omega arith) in
+          go_paren is rest (two_characters_len false bs) (two_characters_cut bs rest) (sym (cond-true _ _ _ paren) ∙ e)
+      | inr no_paren ↦
+          elim (cases_Bool (eqb b 0x5B)) [
+            | inl bracket ↦
+                let is = eqb-true b 0x5B bracket in
+                let rest = CutsAt-ascii b bs utf8 (omega arith) in
+                go_bracket is (bracketed_len bs) (λ k found. bracketed_text bs k rest found) (sym (cond-false _ _ _ no_paren ∙ cond-true _ _ _ bracket) ∙ e)
+            | inr no_bracket ↦
+                let found = sym (cond-false _ _ _ no_paren ∙ cond-false _ _ _ no_bracket) ∙ e in
+                let cut = character_cut (b ∷ bs) utf8 n found in
+                let some = (character_len-fits (b ∷ bs) n found).0 in
+                let back : n - 1 + 1 ≡ n = omega arith in
+                let shape : take n (b ∷ bs) ≡ b ∷ take (n - 1) bs = take_first b bs n (n - 1) back in
+                let whole : bare_name (take n (b ∷ bs)) ≡ take n (b ∷ bs) = ap bare_name shape ∙ bare_name-other b (take (n - 1) bs) no_paren no_bracket ∙ sym shape in
+                subst (λ u. IsUtf8 u) (sym whole) (IsUtf8-take (b ∷ bs) n utf8 (CutsAt-boundary cut))
+          ]
+    ]
+  where
+    go_paren : b ≡ 0x28 → IsUtf8 bs → (o : Option ℕ) → ((k : ℕ) → o ≡ Some k → CutsAt bs k) → option_map (λ k. k + 1) o ≡ Some n → IsUtf8 (bare_name (take n (b ∷ bs)))
+    go_paren is rest None cut e = cc
+    go_paren is rest (Some k) cut e =
+        let same : k + 1 ≡ n = cc in
+        subst (λ u. IsUtf8 u) (sym (ap bare_name (take_first b bs n k same) ∙ bare_name-paren b (take k bs) is)) (IsUtf8-take bs k rest (CutsAt-boundary (cut k refl)))
+
+    go_bracket : b ≡ 0x5B → (o : Option ℕ) → ((k : ℕ) → o ≡ Some k → IsUtf8 (without_last (take k bs))) → option_map (λ k. k + 1) o ≡ Some n → IsUtf8 (bare_name (take n (b ∷ bs)))
+    go_bracket is None text e = cc
+    go_bracket is (Some k) text e =
+        let same : k + 1 ≡ n = cc in
+        subst (λ u. IsUtf8 u) (sym (ap bare_name (take_first b bs n k same) ∙ bare_name-bracket b (take k bs) is)) (text k refl)
+
+-- ---- quoted arguments
+
+-- where a text is cut after its first character, that stays its first
+character_len-take : (t : List ℕ) (m n : ℕ) → Taken t m → m ≤ n → character_len (take n t) ≡ Some m
+character_len-take t m n taken le =
+    let c = taken.first.code in
+    let shown : take n t ≡ encode c ++ take (n - m) taken.first.rest =
+    ap (take n) taken.first.is ∙ take-append n m (encode c) taken.first.rest taken.len le in
+    ap character_len shown ∙ character_len-encode c (take (n - m) taken.first.rest) ∙ ap Some taken.len
+  where
+    take-append : (n m : ℕ) (xs ys : List ℕ) → length xs ≡ m → m ≤ n → take n (xs ++ ys) ≡ xs ++ take (n - m) ys
+    take-append n m xs ys size le =
+        let split : n ≡ length xs + (n - m) = omega arith in
+        ap (λ n. take n (xs ++ ys)) split ∙ take-append-add xs ys (n - m)
+
+pub bare_quoted_text : (t : List ℕ) (n : ℕ) → IsUtf8 t → quoted_len false (content_len false) t ≡ Some n → IsUtf8 (bare_quoted false (take n t))
+unfolding quoted_len
+bare_quoted_text t n utf8 = go (character_len t) (λ m is. character_len-taken t m utf8 is)
+  where
+    inner : (m : ℕ) → Taken t m → (o : Option ℕ) → ((k : ℕ) → o ≡ Some k → CutsAt (drop m t) k × CutsAt (drop m t) (k + m)) → option_map (λ k. m + (k + m)) o ≡ Some n → IsUtf8 (bare_quoted false (take n t))
+    inner m taken None ends e = cc
+    inner m taken (Some k) ends e =
+        let same : m + (k + m) ≡ n = cc in
+        let cut = (ends k refl).0 in
+        let fits = (ends k refl).1.within in
+        let mark : unwrap_or (character_len (take n t)) 0 ≡ m = ap (λ o. unwrap_or o 0) (character_len-take t m n taken (omega arith)) in
+        let size : length (take n t) ≡ n = length-take-le n t (omega (arith, length-drop m t)) in
+        let count : length (take n t) - m - m ≡ k = omega arith in
+        let rest : drop m (take n t) ≡ take (k + m) (drop m t) = ap (λ n. drop m (take n t)) (sym same) ∙ drop-take m (k + m) t in
+        let whole : bare_quoted false (take n t) ≡ take k (drop m t) =
+        ap (λ m. take (length (take n t) - m - m) (drop m (take n t))) mark ∙ ap₂ take count rest ∙ take-take k (k + m) (drop m t) (omega arith) in
+        subst (λ u. IsUtf8 u) (sym whole) (IsUtf8-take (drop m t) k taken.cut.utf8 (CutsAt-boundary cut))
+
+    go : (o : Option ℕ) → ((m : ℕ) → o ≡ Some m → Taken t m) → option_and_then (λ m. option_map (λ k. m + (k + m)) (content_len false (take m t) (drop m t))) o ≡ Some n → IsUtf8 (bare_quoted false (take n t))
+    go None taken = λ e. cc
+    go (Some m) taken = inner m (taken m refl) (content_len false (take m t) (drop m t)) (λ k is. content_cut t m k (taken m refl) is)
+
+-- ---- What an escape in UTF-8 means has texts in UTF-8.
+
+-- ---- the meanings of single escapes
+
+bracketed_texts : (name : List ℕ) → IsUtf8 name → HasTexts (bracketed name)
+bracketed_texts name utf8 = cond_both (names_code_point name) _ (glyph name) HasTexts (λ _. tt) (λ _. utf8)
+
+record FaceTexts (f : Face) : Type 0 where
+  texts : HasTexts (face f)
+
+either_face : (c : Bool) (f g : Face) → FaceTexts f → FaceTexts g → FaceTexts (cond c f g)
+either_face true f g here there = here
+either_face false f g here there = there
+
+known_face : (f : Face) → HasTexts (face f) → FaceTexts f
+known_face f t = record { texts = t }
+
+face_texts : (name : List ℕ) → IsUtf8 name → FaceTexts (face_of name)
+unfolding face_of
+face_texts name utf8 =
+    either_face _ _ _ (known_face roman tt)
+    (either_face _ _ _ (known_face italic tt)
+    (either_face _ _ _ (known_face bold tt)
+    (either_face _ _ _ (known_face bold_italic tt)
+    (either_face _ _ _ (known_face former tt) (known_face (unknown name) utf8)))))
+
+meaning_texts : (kind : LetterKind) (argument text : List ℕ) → IsUtf8 argument → HasTexts (meaning_by kind argument text)
+meaning_texts means.Glyph argument text utf8 = utf8
+meaning_texts means.CodePoint argument text utf8 = bracketed_texts argument utf8
+meaning_texts (means.Char c) argument text utf8 = tt
+meaning_texts means.Tab argument text utf8 = tt
+meaning_texts means.Blank argument text utf8 = tt
+meaning_texts means.Blanks argument text utf8 = utf8
+meaning_texts means.Nothing argument text utf8 = tt
+meaning_texts means.Size [] text utf8 = tt
+meaning_texts means.Size (b ∷ bs) text utf8 = tt
+meaning_texts means.Glue argument text utf8 = tt
+meaning_texts means.Font argument text utf8 = (face_texts argument utf8).texts
+meaning_texts means.Undefined argument text utf8 = tt
+meaning_texts means.Unsupported argument text utf8 = tt
+
+-- ---- the argument as it is cut out of the text
+
+Some-None : {x : ℕ} → Some x ≡ None → ⊥
+Some-None e = cc
+
+module _ (b key : ℕ) (rest : List ℕ) (utf8 : IsUtf8 (b ∷ key ∷ rest)) (ascii : b < 128) (n : ℕ) (len : escape_len false (b ∷ key ∷ rest) ≡ Some n) where
+  after_backslash : IsUtf8 (key ∷ rest)
+  after_backslash = CutsAt-ascii b (key ∷ rest) utf8 ascii
+
+  no_extent : extent_of false (b ∷ key ∷ rest) ≡ None → ⊥
+  no_extent is = let none : Some n ≡ None = sym len ∙ escape_len-none false (b ∷ key ∷ rest) is in cc
+
+  whole_extent : (m : ℕ) → extent_of false (b ∷ key ∷ rest) ≡ Some (Whole m) → m ≡ n
+  whole_extent m is = let same : Some m ≡ Some n = sym (escape_len-whole false (b ∷ key ∷ rest) m is) ∙ len in cc
+
+  cut_glyph : shape_of key rest ≡ Glyph → IsUtf8 (bare_name (key ∷ take (n - 2) rest))
+  cut_glyph shape = go (name_len false (key ∷ rest)) refl
+    where
+      go : (o : Option ℕ) → name_len false (key ∷ rest) ≡ o → IsUtf8 (bare_name (key ∷ take (n - 2) rest))
+      go None is = absurd (no_extent (ap (λ s. extent_by false s key rest) shape ∙ ap (option_map (λ k. Whole (k + 1))) is))
+      go (Some m) is =
+          let same : m + 1 ≡ n = whole_extent (m + 1) (ap (λ s. extent_by false s key rest) shape ∙ ap (option_map (λ k. Whole (k + 1))) is) in
+          let some = name_len-some (key ∷ rest) m is in
+          let cut : take m (key ∷ rest) ≡ key ∷ take (n - 2) rest = take_first key rest m (n - 2) (omega arith) in
+          subst (λ u. IsUtf8 (bare_name u)) cut (bare_name_text (key ∷ rest) m after_backslash is)
+
+  cut_name : key < 128 → shape_of key rest ≡ Name → IsUtf8 (bare_name (take (n - 2) rest))
+  cut_name low shape = go (name_len false rest) refl
+    where
+      go : (o : Option ℕ) → name_len false rest ≡ o → IsUtf8 (bare_name (take (n - 2) rest))
+      go None is = absurd (no_extent (ap (λ s. extent_by false s key rest) shape ∙ ap (option_map (λ k. Whole (k + 2))) is))
+      go (Some m) is =
+          let same : m + 2 ≡ n = whole_extent (m + 2) (ap (λ s. extent_by false s key rest) shape ∙ ap (option_map (λ k. Whole (k + 2))) is) in
+          let count : m ≡ n - 2 = omega arith in
+          subst (λ m. IsUtf8 (bare_name (take m rest))) count (bare_name_text rest m (CutsAt-ascii key rest after_backslash low) is)
+
+  cut_quoted : key < 128 → shape_of key rest ≡ Quoted → IsUtf8 (bare_quoted false (take (n - 2) rest))
+  cut_quoted low shape = go (quoted_len false (content_len false) rest) refl
+    where
+      extent : extent_of false (b ∷ key ∷ rest) ≡ Some (QuotedFrom 2)
+      extent = ap (λ s. extent_by false s key rest) shape
+
+      go : (o : Option ℕ) → quoted_len false (content_len false) rest ≡ o → IsUtf8 (bare_quoted false (take (n - 2) rest))
+      go None is =
+          let none : Some n ≡ None = sym len ∙ escape_len-quoted false (b ∷ key ∷ rest) 2 extent ∙ ap (option_map (λ k. 2 + k)) is in
+          absurd (Some-None none)
+      go (Some m) is =
+          let both : Some (2 + m) ≡ Some n = sym (escape_len-quoted false (b ∷ key ∷ rest) 2 extent ∙ ap (option_map (λ k. 2 + k)) is) ∙ len in
+          let same : 2 + m ≡ n = cc in
+          let count : m ≡ n - 2 = omega arith in
+          subst (λ m. IsUtf8 (bare_quoted false (take m rest))) count (bare_quoted_text rest m (CutsAt-ascii key rest after_backslash low) is)
+
+  cut_size : key < 128 → IsUtf8 (take (n - 2) rest)
+  cut_size low = go n len
+    where
+      go : (n : ℕ) → escape_len false (b ∷ key ∷ rest) ≡ Some n → IsUtf8 (take (n - 2) rest)
+      go zero found = IsUtf8-nil
+      go (suc zero) found = IsUtf8-nil
+      go (suc (suc m)) found =
+          let cut = escape_len_cuts (b ∷ key ∷ rest) (suc (suc m)) utf8 ascii found in
+          let whole : IsUtf8 (b ∷ key ∷ take m rest) = IsUtf8-take (b ∷ key ∷ rest) (suc (suc m)) utf8 (CutsAt-boundary cut) in
+          let count : m ≡ suc (suc m) - 2 = omega arith in
+          subst (λ m. IsUtf8 (take m rest)) count (CutsAt-ascii key (take m rest) (CutsAt-ascii b (key ∷ take m rest) whole ascii) low)
+
+  -- what follows the letter is the letter's, where that wants an argument in a text of its own
+  pub cut_argument : IsUtf8 (argument_of false (letter_of key).shape (key ∷ take (n - 2) rest))
+  cut_argument = go (letter_of key).shape refl
+    where
+      go : (s : Shape) → (letter_of key).shape ≡ s → IsUtf8 (argument_of false s (key ∷ take (n - 2) rest))
+      go Alone shape = IsUtf8-nil
+      go Glyph shape = cut_glyph (ap (shape_before rest) shape)
+      go Name shape = cut_name (letter_ascii key Name shape refl) (ap (shape_before rest) shape)
+      go Size shape = cut_size (letter_ascii key Size shape refl)
+      go Quoted shape = cut_quoted (letter_ascii key Quoted shape refl) (ap (shape_before rest) shape)
+
+-- ---- the whole escape
+
+pub escape_texts : (t : List ℕ) (n : ℕ) → IsUtf8 t → get_or t 0 0 < 128 → escape_len false t ≡ Some n → HasTexts (meaning_of false (take n t))
+unfolding meaning_of
+escape_texts t zero utf8 ascii e = tt
+escape_texts [] (suc n) utf8 ascii e = tt
+escape_texts (b ∷ bs) (suc zero) utf8 ascii e = tt
+escape_texts (b ∷ []) (suc (suc n)) utf8 ascii e = tt
+escape_texts (b ∷ key ∷ rest) (suc (suc n)) utf8 ascii e =
+    let count : suc (suc n) - 2 ≡ n = omega arith in
+    let text = subst (λ m. IsUtf8 (argument_of false (letter_of key).shape (key ∷ take m rest))) count (cut_argument b key rest utf8 ascii (suc (suc n)) e) in
+    meaning_texts (letter_of key).kind _ (key ∷ take n rest) text
+
+-- the escape at a text's front, whether it has its end or not
+pub escape_cuts : (t : List ℕ) → IsUtf8 t → get_or t 0 0 < 128 → IsCharBoundary t (escape_of false t).1
+unfolding escape_of
+escape_cuts t utf8 ascii = go (escape_len false t) (λ n is. CutsAt-boundary (escape_len_cuts t n utf8 ascii is))
+  where
+    go : (o : Option ℕ) → ((n : ℕ) → o ≡ Some n → IsCharBoundary t n) → IsCharBoundary t (read_escape false t o).1
+    go None cut = (omega arith, λ lt high. omega arith)
+    go (Some n) cut = cut n refl
+
+pub escape_has_texts : (t : List ℕ) → IsUtf8 t → get_or t 0 0 < 128 → HasTexts (escape_of false t).0
+unfolding escape_of
+escape_has_texts t utf8 ascii = go (escape_len false t) (λ n is. escape_texts t n utf8 ascii is)
+  where
+    go : (o : Option ℕ) → ((n : ℕ) → o ≡ Some n → HasTexts (meaning_of false (take n t))) → HasTexts (read_escape false t o).0
+    go None texts = tt
+    go (Some n) texts = texts n refl

@@ -1,13 +1,3 @@
-pub mod Options
 pub mod Contents
 pub mod Unwinding
-pub mod HexNumbers
-pub mod MeaningLemmas
-pub mod Characters
-pub mod LetterLemmas
 pub mod Boundaries
-pub mod ArgumentTexts
-pub mod EscapeTexts
-pub mod TokenLemmas
-pub mod PlainLemmas
-pub mod FontLemmas

@@ -1,19 +1,33 @@
 -- What is left of arguments that are inside one another: the content of the innermost, its delimiter, then the rest of the next.
-use Rattle.std.proofs.Common.{◌≡◌, ℕ, ◌+◌, ◌-◌, ◌<◌, ◌≤◌, Bool, true, false, cond, eqb, nat_eq, List, [], ◌∷◌, length, take, drop, Option, Some, None, option_map, refl, sym, ap, ap₂, ◌∙◌, arith, length-drop, unwrap_or, zero-add, add-zero, ◌++◌, map, reverse, slice_get, drop_of_length-le, subst, get_or, not, inl, inr}
+use Rattle.std.proofs.Common.{◌≡◌, ℕ, ◌+◌, ◌-◌, ◌<◌, ◌≤◌, Bool, true, false, cond, eqb, nat_eq, List, [], ◌∷◌, length, take, drop, Option, Some, None, option_map, refl, sym, ap, ap₂, ◌∙◌, arith, length-drop, unwrap_or, zero-add, add-zero, ◌++◌, map, reverse, slice_get, drop_of_length-le, subst, get_or, not, inl, inr, ◌*◌, IsUtf8, chars, suc, ◌/◌, add-one, zero, ◌&&◌, if◌then◌else◌, ◌%◌, ◌^◌, Fits, w8}
 use Rattle.std.specs.Option.{option_and_then}
 use Rattle.std.specs.List.{starts_with, prefix_len}
-use Rattle.std.proofs.lemmas.Bool.{cases_Bool, and_parts, not-true}
+use Rattle.std.proofs.lemmas.Bool.{cases_Bool, and_parts, not-true, cond_both, cases_lt, cond-true, cond-false, lt-ltb, le-ltb, le-leb, ne_eqb, agree_below, agree_below_at}
 use Rattle.std.proofs.lemmas.Bool.Decides.{nat_tests}
-use Rattle.std.proofs.lemmas.List.{drop-drop, length-take, length-take-le, take_all, reverse-append, take-append-drop, drop_more}
+use Rattle.std.proofs.lemmas.List.{drop-drop, length-take, length-take-le, take_all, reverse-append, take-append-drop, drop_more, get_or-take, get_or_past, length-append, drop_at, take_at, length-map}
 use Rattle.std.proofs.lemmas.Option.{slice_get_within, get_or_from_slice_get, slice_get-get_or}
 use Rattle.page_core_escapes.specs.declared.extents.Extent.{Extent}
 use Rattle.page_core_escapes.specs.declared.extents.Extent.TheVariants.{QuotedFrom}
 use Rattle.page_core_escapes.specs.declared.quoted.Step.{Step}
 use Rattle.page_core_escapes.specs.declared.quoted.Step.TheVariants.{Passes, Opens, Closes}
-use Rattle.page_core_escapes.specs.Lengths.{written_len, extent_of, quoted_len, extent_len, escape_len_by, content_len}
+use Rattle.page_core_escapes.specs.Lengths.{written_len, extent_of, quoted_len, extent_len, escape_len_by, content_len, letter_of, character_len}
 use Rattle.page_core_escapes.specs.machine.Steps.{first_character, is_inner, step_over, step_of, StepFits}
-use Rattle.page_core_escapes.proofs.Options.{and_then-same, and_then-map, map-and_then, map-map, map-same}
-use Rattle.page_core_escapes.proofs.Contents.{written_len-fits, next_content, content_len-next}
+use Rattle.page_core_escapes.proofs.Contents.{and_then-same, and_then-map, map-and_then, map-map, map-same, written_len-fits, next_content, content_len-next}
+use Rattle.page_core_base.specs.Bytes.{is_digit, is_white, begins_white, begins_escape, begins_quote}
+use Rattle.page_core_escapes.specs.Meanings.{hex_value, hex_number, nothing, letter_meaning, first_char, meaning_of, escape_of}
+use Rattle.std.specs.Prelude.{slice_index}
+use Rattle.std.specs.Str.{is_utf8, IsCharBoundary, continuation_len}
+use Rattle.std.proofs.lemmas.Str.{is_utf8-from_IsUtf8, IsUtf8-from_is_utf8, IsUtf8-drop, IsCharBoundary-after_ascii, IsCharBoundary-from_drop}
+use Rattle.std.specs.Char.{IsScalar}
+use Rattle.std.proofs.Math.Utf8.{encode, encodes, scalars, scalar}
+use Rattle.page_core_escapes.specs.Tokens.{TextToken, is_space, prints_itself, token_at, token_bytes, token_len, tokens_len, tokens_within, tokens_of}
+use Rattle.page_core_escapes.specs.laws.Views.{begins_word}
+use Rattle.std.proofs.lemmas.Simd.{chunk-drop, length-chunk, trailing_mask_l, mask_l-mod}
+use Rattle.std.proofs.lemmas.List.Folds.{prefix_len-append}
+use Rattle.std.proofs.lemmas.List.Sums.{prefix_len-le-length}
+use lib.Bits.{bit_or}
+use lib.Count.{count_trailing_zeros}
+use lib.Lanes.{chunk, mask_l, top, Each1}
 
 -- ---- what is read of `&t[at..]`
 
@@ -267,3 +281,279 @@ module _ (pairs : Bool) where
       go (p ∷ ps) none =
           let there : slice_get (p ∷ ps) (length (p ∷ ps) - 1) ≡ Some (get_or (p ∷ ps) (length (p ∷ ps) - 1) 0) = slice_get-get_or (p ∷ ps) (length (p ∷ ps) - 1) 0 (omega arith) in
           absurd (Some-None (sym there ∙ none))
+
+-- ---- A few hexadecimal digits spell a number that fits 32 bits.
+
+hex_value-le : (b : ℕ) → hex_value b ≤ b
+hex_value-le b = cond_both (is_digit b) (b - 0x30) (b - 0x37) (λ v. v ≤ b) (λ _. omega arith) (λ _. omega arith)
+
+pub hex_number-bound : (ds : List ℕ) → length ds ≤ 5 → ((i : ℕ) → get_or ds i 0 < 256) → hex_number ds * 16 + 255 < 4294967296
+hex_number-bound [] few bytes = omega arith
+hex_number-bound (a ∷ []) few bytes = omega (arith, hex_value-le a, bytes 0)
+hex_number-bound (a ∷ b ∷ []) few bytes = omega (arith, hex_value-le a, hex_value-le b, bytes 0, bytes 1)
+hex_number-bound (a ∷ b ∷ c ∷ []) few bytes = omega (arith, hex_value-le a, hex_value-le b, hex_value-le c, bytes 0, bytes 1, bytes 2)
+hex_number-bound (a ∷ b ∷ c ∷ d ∷ []) few bytes =
+    omega (arith, hex_value-le a, hex_value-le b, hex_value-le c, hex_value-le d, bytes 0, bytes 1, bytes 2, bytes 3)
+hex_number-bound (a ∷ b ∷ c ∷ d ∷ e ∷ []) few bytes =
+    omega (arith, hex_value-le a, hex_value-le b, hex_value-le c, hex_value-le d, hex_value-le e, bytes 0, bytes 1, bytes 2, bytes 3, bytes 4)
+hex_number-bound (a ∷ b ∷ c ∷ d ∷ e ∷ f ∷ ds) few bytes = absurd (omega arith)
+
+-- a digit more than i of them still fits
+pub hex_number-take : (ds : List ℕ) (i : ℕ) → i < length ds → length ds ≤ 6 → ((k : ℕ) → get_or ds k 0 < 256) → hex_number (take i ds) * 16 + 255 < 4294967296
+hex_number-take ds i lt few bytes =
+    hex_number-bound (take i ds) (omega (arith, length-take i ds)) (λ k.
+    elim (cases_lt k i) [
+      | inl before ↦ let same = get_or-take i ds k 0 before in omega (arith, bytes k)
+      | inr after ↦ let none = get_or_past (take i ds) k 0 (omega (arith, length-take i ds)) in omega arith
+    ])
+
+-- ---- The meaning of an escape that is given as a text of its own.
+
+pub meaning_of-short : (pairs : Bool) (t : List ℕ) → length t < 2 → nothing ≡ meaning_of pairs t
+unfolding meaning_of
+meaning_of-short pairs (b ∷ key ∷ written) short = absurd (omega arith)
+meaning_of-short pairs _ short = refl
+
+pub meaning_of-parts : (pairs : Bool) (t : List ℕ) → 2 ≤ length t → letter_meaning pairs (letter_of (get_or t 1 0)) (drop 1 t) ≡ meaning_of pairs t
+unfolding meaning_of
+meaning_of-parts pairs (b ∷ key ∷ written) long = refl
+meaning_of-parts pairs _ long = absurd (omega arith)
+
+-- ---- a text's first character
+
+pub first_char-text : (t : List ℕ) → IsUtf8 t → first_char t ≡ slice_index (chars t) 0
+unfolding first_char
+first_char-text t u = rw (is_utf8-from_IsUtf8 t u) refl
+
+pub first_char-none : (t : List ℕ) → ¬ IsUtf8 t → first_char t ≡ 0xFFFD
+unfolding first_char
+first_char-none t u = elim (cases_Bool (is_utf8 t)) [ inl e ↦ absurd (u (IsUtf8-from_is_utf8 t e)) | inr f ↦ rw f refl ]
+
+-- ---- The characters of a text in UTF-8, and where the text may be cut.
+
+-- ---- the first byte of a character
+
+-- what a character's first byte says: how many follow, and that it begins a character
+pub record BeginsWith (c : ℕ) : Type 0 where
+  pub lead : ℕ
+  pub others : List ℕ
+  pub is : encode c ≡ lead ∷ others
+  pub count : continuation_len lead ≡ length others
+  pub starts : 128 ≤ lead → 192 ≤ lead
+
+pub begins_with : (c : ℕ) → BeginsWith c
+unfolding encode
+begins_with c =
+    elim (cases_lt c 128) [
+      | inl ascii ↦ record { lead = c; others = []; is = cond-true _ _ _ (lt-ltb c 128 ascii); count = grind (arith, nat_tests, ascii); starts = λ h. absurd (omega arith) }
+      | inr above ↦
+          let past = cond-false _ _ _ (le-ltb c 128 above) in
+          elim (cases_lt c 2048) [
+            | inl below ↦ record { lead = 192 + c / 64; others = _; is = past ∙ cond-true _ _ _ (lt-ltb c 2048 below); count = grind (arith, nat_tests); starts = λ h. omega arith }
+            | inr above ↦
+                let past = past ∙ cond-false _ _ _ (le-ltb c 2048 above) in
+                elim (cases_lt c 65536) [
+                  | inl below ↦ record { lead = 224 + c / 4096; others = _; is = past ∙ cond-true _ _ _ (lt-ltb c 65536 below); count = grind (arith, nat_tests); starts = λ h. omega arith }
+                  | inr above ↦ record { lead = 240 + c / 262144; others = _; is = past ∙ cond-false _ _ _ (le-ltb c 65536 above); count = grind (arith, nat_tests); starts = λ h. omega arith }
+                ]
+          ]
+    ]
+
+-- ---- a text and its first character
+
+pub record FirstCharacter (t : List ℕ) : Type 0 where
+  pub code : ℕ
+  pub rest : List ℕ
+  pub scalar : IsScalar code
+  pub is : t ≡ encode code ++ rest
+  pub utf8 : IsUtf8 rest
+
+pub first_of : (t : List ℕ) → IsUtf8 t → 0 < length t → FirstCharacter t
+first_of t (cs, (all, e)) some = go cs all e
+  where
+    go : (cs : List ℕ) → scalars cs ≡ true → encodes cs ≡ t → FirstCharacter t
+    go [] all e = let none = ap length e in absurd (omega arith)
+    go (c ∷ cs) all e =
+        let parts = and_parts (scalar c) (scalars cs) all in
+        record { code = c; rest = encodes cs; scalar = parts.0; is = sym e; utf8 = (cs, (parts.1, refl)) }
+
+-- its length is what its first byte says
+pub character_len-encode : (c : ℕ) (rest : List ℕ) → character_len (encode c ++ rest) ≡ Some (length (encode c))
+character_len-encode c rest =
+    let b = begins_with c in
+    let size : length (encode c) ≡ suc (length b.others) = ap length b.is in
+    ap (λ l. character_len (l ++ rest)) b.is
+    ∙ cond-true _ _ _ (le-leb (continuation_len b.lead) (length (b.others ++ rest)) (omega (arith, length-append b.others rest, b.count)))
+    ∙ ap Some (ap (λ n. n + 1) b.count ∙ add-one (length b.others) ∙ sym size)
+
+-- a text without its first character
+pub record CutsAt (t : List ℕ) (n : ℕ) : Type 0 where
+  pub within : n ≤ length t
+  pub utf8 : IsUtf8 (drop n t)
+
+pub CutsAt-boundary : {t : List ℕ} {n : ℕ} → CutsAt t n → IsCharBoundary t n
+CutsAt-boundary {t} {n} cut = IsCharBoundary-from_drop t n cut.within cut.utf8
+
+pub CutsAt-add : {t : List ℕ} {n m : ℕ} → CutsAt t n → CutsAt (drop n t) m → CutsAt t (n + m)
+CutsAt-add {t} {n} {m} first second = record {
+  within = let below = first.within in let more = second.within in omega (arith, length-drop n t);
+  utf8 = subst (λ u. IsUtf8 u) (drop-drop m n t) second.utf8;
+}
+
+pub CutsAt-ascii : (b : ℕ) (bs : List ℕ) → IsUtf8 (b ∷ bs) → b < 128 → IsUtf8 bs
+CutsAt-ascii b bs utf8 ascii = IsUtf8-drop (b ∷ bs) 1 utf8 (IsCharBoundary-after_ascii (b ∷ bs) 0 utf8 (omega arith) ascii)
+
+-- what is known of a text whose first character takes m bytes
+pub record Taken (t : List ℕ) (m : ℕ) : Type 0 where
+  pub first : FirstCharacter t
+  pub len : length (encode first.code) ≡ m
+  pub cut : CutsAt t m
+  pub bytes : take m t ≡ encode first.code
+
+pub character_len-taken : (t : List ℕ) (m : ℕ) → IsUtf8 t → character_len t ≡ Some m → Taken t m
+character_len-taken [] m utf8 e = cc
+character_len-taken (b ∷ bs) m utf8 e =
+    let t = b ∷ bs in
+    let first = first_of t utf8 (omega arith) in
+    let same : Some (length (encode first.code)) ≡ Some m = sym (character_len-encode first.code first.rest) ∙ ap character_len (sym first.is) ∙ e in
+    let len : length (encode first.code) ≡ m = cc in
+    record {
+      first = first;
+      len = len;
+      cut = record {
+        within = let all = ap length first.is in omega (arith, length-append (encode first.code) first.rest);
+        utf8 = subst (λ u. IsUtf8 u) (sym (ap (drop m) first.is ∙ drop_at (encode first.code) first.rest m len)) first.utf8;
+      };
+      bytes = ap (take m) first.is ∙ take_at (encode first.code) first.rest m len;
+    }
+
+-- ---- The tokens of a text, one by one.
+
+-- more tokens than bytes make no difference
+tokens_enough : (quoted : Bool) (n m : ℕ) (text : List ℕ) → length text ≤ n → length text ≤ m → tokens_within quoted n text ≡ tokens_within quoted m text
+tokens_enough quoted zero (suc m) (b ∷ bs) p q = absurd (omega arith)
+tokens_enough quoted (suc n) zero (b ∷ bs) p q = absurd (omega arith)
+tokens_enough quoted (suc n) (suc m) (b ∷ bs) p q =
+    let rest = drop (token_len quoted (b ∷ bs) - 1) bs in
+    let e = length-drop (token_len quoted (b ∷ bs) - 1) bs in
+    ap (λ l. token_at quoted (b ∷ bs) ∷ l) (tokens_enough quoted n m rest (omega (arith, e)) (omega (arith, e)))
+tokens_enough quoted _ _ _ p q = refl
+
+past_first : (n b : ℕ) (bs : List ℕ) → 0 < n → drop (n - 1) bs ≡ drop n (b ∷ bs)
+past_first zero b bs h = absurd (omega arith)
+past_first (suc n) b bs h = let e : suc n - 1 ≡ n = omega arith in ap (λ k. drop k bs) e
+
+no_token : (quoted : Bool) (n : ℕ) → 0 < n → n ≡ token_len quoted [] → ⊥
+unfolding token_at
+no_token false n h e = let z : n ≡ 0 = e in omega arith
+no_token true n h e = let z : n ≡ 0 = e in omega arith
+
+-- the first token, and those of the rest
+pub tokens_more : (quoted : Bool) (text : List ℕ) (n : ℕ) → 0 < n → n ≡ token_len quoted text → tokens_of quoted text ≡ token_at quoted text ∷ tokens_of quoted (drop n text)
+unfolding tokens_of
+tokens_more quoted [] n h e = absurd (no_token quoted n h e)
+tokens_more quoted (b ∷ bs) n h e =
+    let cut : drop (token_len quoted (b ∷ bs) - 1) bs ≡ drop n (b ∷ bs) = rw (← e) (past_first n b bs h) in
+    let l = length-drop (token_len quoted (b ∷ bs) - 1) bs in
+    ap (λ l. token_at quoted (b ∷ bs) ∷ l)
+    (tokens_enough quoted (length bs) (length (drop (token_len quoted (b ∷ bs) - 1) bs)) (drop (token_len quoted (b ∷ bs) - 1) bs) (omega (arith, l)) (omega arith)
+    ∙ ap (tokens_of quoted) cut)
+
+pub tokens_none : (quoted : Bool) (text : List ℕ) → length text ≤ 0 → tokens_of quoted text ≡ []
+unfolding tokens_of
+tokens_none quoted [] h = refl
+tokens_none quoted (b ∷ bs) h = absurd (omega arith)
+
+either_within : (test : Bool) (s t : TextToken) (n : ℕ) → length (token_bytes s) ≤ n → length (token_bytes t) ≤ n
+    → length (token_bytes (if test then s else t)) ≤ n
+either_within true s t n h k = h
+either_within false s t n h k = k
+
+front_within : (n : ℕ) (text : List ℕ) → length (take n text) ≤ length text
+front_within n text = omega (arith, length-take n text)
+
+token_within : (quoted : Bool) (text : List ℕ) → token_len quoted text ≤ length text
+unfolding token_at
+token_within quoted text =
+    either_within (begins_white text) _ _ (length text) (front_within (prefix_len is_white text) text)
+    (either_within (begins_escape text) _ _ (length text) (front_within (escape_of quoted text).1 text)
+    (either_within (quoted && begins_quote text) _ _ (length text) (front_within 2 text)
+    (front_within (prefix_len (prints_itself quoted) text) text)))
+
+some_within : (quoted : Bool) (n : ℕ) (text : List ℕ) → tokens_len (tokens_within quoted n text) ≤ length text
+some_within quoted (suc n) (b ∷ bs) =
+    let cut = token_len quoted (b ∷ bs) - 1 in
+    omega (arith, token_within quoted (b ∷ bs), some_within quoted n (drop cut bs), length-drop cut bs)
+some_within quoted _ _ = omega arith
+
+-- the tokens of a text have no more bytes than it
+pub len_within : (quoted : Bool) (text : List ℕ) → tokens_len (tokens_of quoted text) ≤ length text
+unfolding tokens_of
+len_within quoted text = some_within quoted (length text) text
+
+pub word_some : (text : List ℕ) → begins_word text ≡ true → 0 < length text
+word_some [] h = grind (arith, h)
+word_some (b ∷ bs) h = omega arith
+
+pub word_token : (quoted : Bool) (b : ℕ) (bs : List ℕ) → is_white b ≡ false → is_space (token_at quoted (b ∷ bs)) ≡ false
+unfolding token_at
+word_token quoted b bs t = grind (arith, nat_tests)
+
+pub space_token : (quoted : Bool) (b : ℕ) (bs : List ℕ) → is_white b ≡ true → is_space (token_at quoted (b ∷ bs)) ≡ true
+unfolding token_at
+space_token quoted b bs t = rw t refl
+
+pub not_white : (b : ℕ) (bs : List ℕ) → begins_word (b ∷ bs) ≡ true → is_white b ≡ false
+not_white b bs h = grind (arith, nat_tests, h)
+
+pub white_first : (b : ℕ) (bs : List ℕ) → begins_word (b ∷ bs) ≡ false → is_white b ≡ true
+white_first b bs h = grind (arith, nat_tests, h)
+
+-- ---- Where a run of bytes that print themselves ends, by the first vector of a text.
+
+-- what is computed of each lane, and whether its top bit says that the byte ends a run
+abbrev pub stop_lane : ℕ → ℕ → ℕ
+stop_lane quote x = bit_or (bit_or (cond (eqb x 32) 255 0) (cond (eqb x 9) 255 0)) (bit_or (cond (eqb x 92) 255 0) (cond (eqb x quote) 255 0))
+
+abbrev pub is_stop : Bool → ℕ → Bool
+is_stop quoted byte = not (prints_itself quoted byte)
+
+lanes_tell : (quoted : Bool) (quote : ℕ) → quote ≡ (if quoted then 34 else 32) → agree_below (λ x. top 7 (stop_lane quote x)) (is_stop quoted) 256 ≡ true
+lanes_tell true quote e = rw e refl
+lanes_tell false quote e = rw e refl
+
+module _ (quoted : Bool) (quote : ℕ) (e : quote ≡ (if quoted then 34 else 32)) where
+  each_lane : (v : List ℕ) → Each1 (Fits w8) v → map (top 7) (map (stop_lane quote) v) ≡ map (is_stop quoted) v
+  each_lane [] fits = refl
+  each_lane (x ∷ xs) fits =
+      ap₂ (λ a b. a ∷ b) (agree_below_at (λ y. top 7 (stop_lane quote y)) (is_stop quoted) 256 x (lanes_tell quoted quote e) fits.0.fits) (each_lane xs fits.1)
+
+  pub stops_mask : (v z : List ℕ) → length v ≤ 64 → Each1 (Fits w8) v → z ≡ map (stop_lane quote) v → mask_l (map (top 7) z) % 2 ^ 64 ≡ mask_l (map (is_stop quoted) v)
+  stops_mask v z short fits is =
+      ap (λ l. mask_l l % 2 ^ 64) (ap (map (top 7)) is ∙ each_lane v fits) ∙ mask_l-mod (map (is_stop quoted) v) 64 (omega (arith, length-map v (is_stop quoted)))
+
+none_fails : (b : Bool) (n l m : ℕ) → n ≤ l → cond (not b) (1 + n) 0 ≡ 1 + l → (n ≡ l → m ≡ 0) → cond b 1 0 + 2 * m ≡ 0
+none_fails true n l m le e ih = let no : ⊥ = omega arith in absurd no
+none_fails false n l m le e ih = let z = ih (omega arith) in omega arith
+
+not-not : (b : Bool) → b ≡ not (not b)
+not-not true = refl
+not-not false = refl
+
+module _ (q : ℕ → Bool) where
+  same_run : (xs : List ℕ) → prefix_len q xs ≡ prefix_len (λ x. not (not (q x))) xs
+  same_run [] = refl
+  same_run (x ∷ xs) = ap₂ (λ b n. cond b (1 + n) 0) (not-not (q x)) (same_run xs)
+
+  all_pass : (xs : List ℕ) → prefix_len (λ x. not (not (q x))) xs ≡ length xs → mask_l (map (λ x. not (q x)) xs) ≡ 0
+  all_pass [] e = refl
+  all_pass (x ∷ xs) e = none_fails (not (q x)) _ (length xs) _ (prefix_len-le-length (λ y. not (not (q y))) xs) (omega arith) (all_pass xs)
+
+  -- a run that ends in the first vector
+  pub first_stop : (text : List ℕ) (n : ℕ) → n ≤ length text → n ≤ 64 → 0 < mask_l (map (λ x. not (q x)) (chunk 0 n text))
+      → prefix_len q text ≡ count_trailing_zeros 64 (mask_l (map (λ x. not (q x)) (chunk 0 n text)))
+  first_stop text n room short some =
+      let c = chunk 0 n text in
+      ap (prefix_len q) (chunk-drop 0 n text) ∙ prefix_len-append q c (drop (0 + n) text)
+      ∙ ap (λ b. cond b (length c + prefix_len q (drop (0 + n) text)) (prefix_len q c)) (ne_eqb _ _ (λ (e : prefix_len q c ≡ length c). omega (arith, all_pass c (sym (same_run c) ∙ e))))
+      ∙ same_run c ∙ sym (trailing_mask_l (λ x. not (q x)) 64 c (omega (arith, length-chunk 0 n text (omega arith))) some)

@@ -1,3 +1,2 @@
 -- The code's own steps and fast ways. Trust needs no reading of them.
-pub mod ShortEscapes
 pub mod Steps

@@ -5,7 +5,7 @@ ghost use Rattle.std.specs.List.{prefix_len};
 ghost use Rattle.std.specs.Simd.Lanes.{mask_l};
 ghost use Rattle.page_core_base.specs.Bytes.{is_white, begins_white, begins_escape, begins_quote};
 ghost use Rattle.page_core_escapes.specs.laws.Views.{face_view, meaning_view, begins_word, token_view};
-ghost use Rattle.page_core_escapes.specs.machine.ShortEscapes.{ShortEscape, ShortFont};
+ghost use Rattle.page_core_escapes.specs.machine.Steps.{ShortEscape, ShortFont};
 ghost use Rattle.page_core_escapes.specs.Tokens.{prints_itself, token_at, token_bytes};
 
 use crate::meaning::font_by_letter;

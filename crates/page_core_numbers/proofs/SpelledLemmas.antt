@@ -6,8 +6,7 @@ use Rattle.std.proofs.lemmas.Bool.Decides.{nat_tests}
 use Rattle.std.proofs.lemmas.List.Sums.{sum_by-append}
 use Rattle.page_core_base.specs.declared.page_settings.Output.{Output}
 use Rattle.page_core_tables.specs.Glyphs.{Entry, table, first_spelling, spelling_of, by_spelling, char_columns, char_printed, is_control}
-use Rattle.page_core_tables.proofs.PrintedLemmas.{char_columns-printable, by_spelling_of-short}
-use Rattle.page_core_tables.proofs.Tables.{spelling_of-above}
+use Rattle.page_core_tables.proofs.Tables.{char_columns-printable, by_spelling_of-short, spelling_of-above}
 use Rattle.page_core_numbers.specs.Columns.{characters_columns}
 
 -- ---- a spelling is a column for each byte

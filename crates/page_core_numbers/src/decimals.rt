@@ -4,7 +4,7 @@ ghost use Rattle.std.specs.Prelude.{◌≡◌, ◌≤◌, ◌+◌, ◌-◌, leng
 ghost use Rattle.std.specs.List.{prefix_len};
 ghost use Rattle.page_core_base.specs.Bytes.{is_digit};
 ghost use Rattle.page_core_numbers.specs.Expressions.{in_range, digits_of, after_digits, fraction_of, after_fraction, scale_at, after_scale, decimal, ten_thousandths, units_of, number_at};
-ghost use Rattle.page_core_numbers.specs.machine.CodeValues.{number_view};
+ghost use Rattle.page_core_numbers.specs.machine.Signs.{number_view};
 
 use crate::scales::{Scale, scale_named};
 

@@ -3,7 +3,7 @@
 ghost use Rattle.std.specs.Prelude.{◌≡◌, ◌+◌, length};
 ghost use Rattle.page_core_base.specs.laws.Views.{FailsAs, Gives};
 ghost use Rattle.page_core_numbers.specs.Expressions.{expression_of, messages_at};
-ghost use Rattle.page_core_numbers.specs.machine.Evaluations.{reported, TakesFirst};
+ghost use Rattle.page_core_numbers.specs.machine.Signs.{reported, TakesFirst};
 
 use crate::expressions::read_expression;
 use crate::scales::Scale;
@@ -32,7 +32,7 @@ impl Model for EvaluationNotes {
     ghost use Rattle.std.specs.Prelude.{List};
     ghost use Rattle.page_core_base.specs.Messages.{Message};
     ghost use Rattle.page_core_numbers.specs.Expressions.{messages_at};
-    ghost use Rattle.page_core_numbers.specs.machine.Evaluations.{troubles_view};
+    ghost use Rattle.page_core_numbers.specs.machine.Signs.{troubles_view};
 
     ghost Value = { List Message };
 

@@ -4,9 +4,7 @@
 ghost use Rattle.std.specs.Prelude.{◌≡◌, ◌≤◌, ◌<◌, ◌+◌, ◌^◌, length, take, min, ℤ, option_map, IfSome, None, is_some, option_copied};
 ghost use Rattle.std.specs.List.{prefix_len};
 ghost use Rattle.page_core_numbers.specs.Expressions.{Read, expression_within, operand_by, no_operand, number, in_parentheses, first, after_operation, next_operator, after_close, number_at};
-ghost use Rattle.page_core_numbers.specs.machine.CodeValues.{operand_view, expression_view, found_view, count_of};
-ghost use Rattle.page_core_numbers.specs.machine.Signs.{after_signs, minus_count, negated_times, negated_value, inside_of, after_open};
-ghost use Rattle.page_core_numbers.specs.machine.Operations.{Goes, is_opening, is_over};
+ghost use Rattle.page_core_numbers.specs.machine.Signs.{operand_view, expression_view, found_view, count_of, after_signs, minus_count, negated_times, negated_value, inside_of, after_open, Goes, is_opening, is_over};
 
 use crate::decimals::read_number;
 use crate::operators::{FoundOperator, Operator, read_operator};

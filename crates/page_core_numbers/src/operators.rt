@@ -2,7 +2,7 @@
 
 ghost use Rattle.std.specs.Prelude.{◌≡◌, ◌<◌, length, option_map, IfSome};
 ghost use Rattle.page_core_numbers.specs.Expressions.{operator_named, operator_at, begins_equal, operator_len, truth, result_of, divides_by_zero};
-ghost use Rattle.page_core_numbers.specs.machine.CodeValues.{found_view};
+ghost use Rattle.page_core_numbers.specs.machine.Signs.{found_view};
 
 /// An operator.
 #[derive(Clone, Copy)]

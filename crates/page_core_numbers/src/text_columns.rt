@@ -9,8 +9,7 @@ ghost use Rattle.page_core_tables.specs.Glyphs.{prints_ascii, by_spelling, char_
 ghost use Rattle.page_core_tables.specs.laws.Views.{printed_view};
 ghost use Rattle.page_core_numbers.specs.laws.Views.{BeginsWith};
 ghost use Rattle.page_core_numbers.specs.Columns.{characters_columns, printed_escape, blanks_in, columns_of};
-ghost use Rattle.page_core_numbers.specs.machine.Fronts.{Front, Past};
-ghost use Rattle.page_core_numbers.specs.machine.Plain.{is_plain, are_plain};
+ghost use Rattle.page_core_numbers.specs.machine.Signs.{Front, Past, is_plain, are_plain};
 
 use crate::expressions::read_expression;
 use crate::scales::Scale;

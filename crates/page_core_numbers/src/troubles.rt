@@ -4,8 +4,7 @@
 ghost use Rattle.std.specs.Prelude.{◌≡◌, ◌≤◌, ◌<◌, ◌+◌, ◌^◌, [], ◌∷◌, ◌++◌, is_some, if◌then◌else◌, MatchOption};
 ghost use Rattle.page_core_base.specs.laws.Views.{message_of};
 ghost use Rattle.page_core_numbers.specs.Expressions.{message_at};
-ghost use Rattle.page_core_numbers.specs.machine.Evaluations.{troubles_view};
-ghost use Rattle.page_core_numbers.specs.machine.CodeValues.{count_of};
+ghost use Rattle.page_core_numbers.specs.machine.Signs.{troubles_view, count_of};
 
 use page_core_base::{Limit, Note, NoteKind, Place};
 

@@ -1,4 +1,1 @@
-pub mod Search
 pub mod Tables
-pub mod PrintedLemmas
-pub mod ControlLemmas

@@ -1,16 +1,4 @@
 pub mod Items
-pub mod Fixed
-pub mod Feeds
-pub mod Cuts
-pub mod Phases
-pub mod Lists
-pub mod Agreements
 pub mod WholeLines
-pub mod TextBytes
-pub mod Cutting
-pub mod LineCounts
-pub mod BytesRead
 pub mod Through
 pub mod WholeRuns
-pub mod KnownBytes
-pub mod Causes

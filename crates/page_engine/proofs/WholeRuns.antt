@@ -1,11 +1,11 @@
 -- Whole runs.
-use Rattle.std.proofs.Common.{◌≡◌, ℕ, ◌-◌, ◌^◌, List, [], length, take, inl, inr, Result, Ok, Err, MatchResult, refl, sym, ap, ◌∙◌, subst, arith}
+use Rattle.std.proofs.Common.{◌≡◌, ℕ, ◌-◌, ◌^◌, List, [], length, take, inl, inr, Result, Ok, Err, MatchResult, refl, sym, ap, ◌∙◌, subst, arith, ◌<◌, ◌++◌, Some, append-nil, length-append}
 use Rattle.std.specs.Io.KnownBytes.{IsAtEnd}
 use Rattle.page_core_base.specs.laws.Views.{IsSink}
-use Rattle.page_core_base.specs.Rows.{Laid, nothing}
+use Rattle.page_core_base.specs.Rows.{Laid, nothing, LaidRow}
 use Rattle.page_core_base.specs.Settings.{IsGood, IsFirst}
 use Rattle.page_core_base.specs.declared.faults.Fault.{Fault}
-use Rattle.page_core_base.specs.declared.faults.Fault.TheVariants.{Memory, Read, WriteText, WriteNotes, TooLong, Settings}
+use Rattle.page_core_base.specs.declared.faults.Fault.TheVariants.{Memory, Read, WriteText, WriteNotes, TooLong, Settings, Failed, Ended, BadIndex}
 use Rattle.page_core_base.specs.declared.page_settings.Settings.{Settings as PageSettings}
 use Rattle.page_core_base.specs.declared.page_settings.SettingFault.{SettingFault}
 use Rattle.page_roff_lines.specs.Lines.{lines}
@@ -17,22 +17,20 @@ use Rattle.page_engine.specs.declared.runs.Run.{Run}
 use Rattle.page_engine.specs.laws.States.{IsOpenAt, CannotStart, Ends}
 use Rattle.page_engine.specs.laws.Reads.{IsOut, MayRead}
 use Rattle.page_engine.specs.Edges.{Edge, start}
-use Rattle.page_engine.specs.laws.Views.{counts_at}
+use Rattle.page_engine.specs.laws.Views.{counts_at, RunsIn}
 use Rattle.page_engine.specs.Page.{page, settled}
 use Rattle.page_core_streams.specs.declared.chunks.Chunks.{Chunks}
-use Rattle.page_core_streams.specs.laws.Views.{AreRead, Stops}
-use Rattle.page_core_base.specs.Messages.{Rose}
+use Rattle.page_core_streams.specs.laws.Views.{AreRead, Stops, source_state}
+use Rattle.page_core_base.specs.Messages.{Rose, Message}
 use Rattle.page_core_streams.specs.Streams.{SourceState, IsTooLong}
 use Rattle.page_engine.specs.Runs.{Streams, Sinks, AllCame, FrontCame, RunsOver, Stopped, StoppedBy, BrokeIn, Broken, whole_page, settled_page}
-use Rattle.page_engine.specs.machine.Points.{page_from, settled_from, BrokeFrom, BrokenFrom}
+use Rattle.page_engine.specs.machine.Steps.{page_from, settled_from, BrokeFrom, BrokenFrom, source_lines, TookLast, PutsOut, Finished, Finishes, Through, EndedWell, StoppedFrom, StartsAt, IsFresh, ReadsAll}
 use Rattle.page_engine.specs.machine.PageSinks.{cause_later}
 use Rattle.page_roff_source.specs.declared.counts.Counts.{Counts}
-use Rattle.page_engine.specs.machine.Steps.{source_lines, TookLast, PutsOut, Finished, Finishes, Through, EndedWell, StoppedFrom, StartsAt, IsFresh, ReadsAll}
-use Rattle.page_core_streams.proofs.GivenLemmas.{given_none, lean_none}
-use Rattle.page_engine.proofs.BytesRead.{both_gave, both_within, page_last, lines_last}
-use Rattle.page_engine.proofs.Through.{broken_front, broken_end, came_out, front_out}
-use Rattle.page_engine.proofs.LineCounts.{first_none}
+use Rattle.page_core_streams.proofs.AsciiLemmas.{given_none, lean_none, lean_long}
+use Rattle.page_engine.proofs.Through.{both_gave, both_within, page_last, lines_last, broken_front, broken_end, came_out, front_out, first_none}
 use Rattle.page_engine.proofs.WholeLines.{start_reached, page_end, end_counts}
+use Rattle.std.proofs.lemmas.List.{take-append-le}
 
 -- from the start of a page
 pub page_start : (s : PageSettings) (bytes : List ℕ) → page_from (start s) (first_point s.encoding) bytes ≡ whole_page s bytes
@@ -282,3 +280,63 @@ pub runs_not_begun : {R N : Type 0} (k : Sinks R N) → IsSink k.to.row_gave k.t
 runs_not_begun k rows notes a r n s Memory h = runs_without_memory k rows notes a r n s h
 runs_not_begun k rows notes a r n s (Settings f) h = runs_refused k rows notes a r n s f h
 runs_not_begun k rows notes a r n s _ h = absurd h
+
+-- ---- Runs over bytes in memory.
+
+-- a source over bytes before the first call, and after calls
+abbrev from_bytes : List ℕ → SourceState
+from_bytes bytes = source_state (Some bytes) 0 0 0 0
+
+-- of bytes that are more than so many, the first so many are those of a front that is more
+longer : {R N : Type 0} (j : Streams R N) {r r' : R} {n n' : N} (s : PageSettings) (most : ℕ) (all xs rest : List ℕ) → all ≡ xs ++ rest → most < length xs
+    → AllCame j r r' n n' (settled_page s (take most xs)) → (most < length all) × AllCame j r r' n n' (settled_page s (take most all))
+longer j s most all xs rest is more came =
+    rw is (omega (arith, more, length-append xs rest), rw (take-append-le most xs rest (omega (arith, more))) came)
+
+pub runs_in : {R N : Type 0} (k : Sinks R N) {r r' : R} {n n' : N} (s : PageSettings) (all rest xs : List ℕ) (calls given : ℕ) (res : Result Outcome Fault)
+    → RunsOver res k (from_bytes all) (source_state (Some rest) 0 calls given 0) r r' n n' s xs → RunsIn res k.to r r' n n' s all
+runs_in k s all rest xs calls given (Ok o) h =
+    let w = h.runs in
+    let is : all ≡ xs = h.source.read ∙ (ap (λ l. xs ++ l) w.all ∙ append-nil xs) in
+    rw is (record { gave = w.gave; worst = w.worst; source = w.source; counts = w.counts; good = w.good; all = refl })
+runs_in k s all rest xs calls given (Err Memory) h = (h.runs.0, h.runs.2)
+runs_in k s all rest xs calls given (Err Read) h = absurd (omega (arith, h.cause (omega arith)))
+runs_in k s all rest xs calls given (Err TooLong) h =
+    let more = lean_long h.asked xs refl refl h.lean h.cause in
+    let l = longer k.to s (2 ^ 31 - 1) all xs rest h.source.read more h.runs.1 in
+    (h.runs.0, l.0, l.1)
+runs_in k s all rest xs calls given (Err WriteText) h = (h.runs.0, record { read = xs; left = rest; parts = h.source.read; front = h.runs.1 })
+runs_in k s all rest xs calls given (Err WriteNotes) h = (h.runs.0, record { read = xs; left = rest; parts = h.source.read; front = h.runs.1 })
+runs_in k s all rest xs calls given (Err (Settings f)) h = (h.runs.0, h.runs.2)
+runs_in k s all rest xs calls given (Err Failed) h = absurd h.runs
+runs_in k s all rest xs calls given (Err Ended) h = absurd h.runs
+runs_in k s all rest xs calls given (Err (BadIndex l)) h = absurd h.runs
+
+-- what comes to sinks comes to what lies below them
+gave_on : {R N W V E : Type 0} (j : Streams R N) (i : Streams W V) {r r' : R} {n n' : N} {w w' : W} {v v' : V} (l : Laid E)
+    → ((rows : List LaidRow) → j.row_gave r rows r' → i.row_gave w rows w') → ((notes : List Message) → j.note_gave n notes n' → i.note_gave v notes v')
+    → AllCame j r r' n n' l → AllCame i w w' v v' l
+gave_on j i l rows notes g = record { rows = rows l.rows g.rows; notes = notes l.notes g.notes }
+
+front_on : {R N W V E : Type 0} (j : Streams R N) (i : Streams W V) {r r' : R} {n n' : N} {w w' : W} {v v' : V} (l : Laid E)
+    → ((rows : List LaidRow) → j.row_within r rows r' → i.row_within w rows w') → ((notes : List Message) → j.note_within n notes n' → i.note_within v notes v')
+    → FrontCame j r r' n n' l → FrontCame i w w' v v' l
+front_on j i l rows notes g = record { rows = rows l.rows g.rows; notes = notes l.notes g.notes }
+
+pub passed_on : {R N W V : Type 0} (j : Streams R N) (i : Streams W V) (r r' : R) (n n' : N) (w w' : W) (v v' : V) (s : PageSettings) (bytes : List ℕ) (res : Result Outcome Fault)
+    → ((rows : List LaidRow) → j.row_gave r rows r' → i.row_gave w rows w') → ((rows : List LaidRow) → j.row_within r rows r' → i.row_within w rows w')
+    → ((notes : List Message) → j.note_gave n notes n' → i.note_gave v notes v') → ((notes : List Message) → j.note_within n notes n' → i.note_within v notes v')
+    → RunsIn res j r r' n n' s bytes → RunsIn res i w w' v v' s bytes
+passed_on j i r r' n n' w w' v v' s bytes (Ok o) a b c d h =
+    record { gave = gave_on j i (whole_page s bytes) a c h.gave; worst = h.worst; source = h.source; counts = h.counts; good = h.good; all = h.all }
+passed_on j i r r' n n' w w' v v' s bytes (Err Memory) a b c d h = (h.0, gave_on j i (nothing (start s)) a c h.1)
+passed_on j i r r' n n' w w' v v' s bytes (Err Read) a b c d h = h
+passed_on j i r r' n n' w w' v v' s bytes (Err TooLong) a b c d h = (h.0, h.1, gave_on j i (settled_page s (take (2 ^ 31 - 1) bytes)) a c h.2)
+passed_on j i r r' n n' w w' v v' s bytes (Err WriteText) a b c d h =
+    (h.0, record { read = h.1.read; left = h.1.left; parts = h.1.parts; front = front_on j i (whole_page s h.1.read) b d h.1.front })
+passed_on j i r r' n n' w w' v v' s bytes (Err WriteNotes) a b c d h =
+    (h.0, record { read = h.1.read; left = h.1.left; parts = h.1.parts; front = front_on j i (whole_page s h.1.read) b d h.1.front })
+passed_on j i r r' n n' w w' v v' s bytes (Err (Settings f)) a b c d h = (h.0, gave_on j i (nothing (start s)) a c h.1)
+passed_on j i r r' n n' w w' v v' s bytes (Err Failed) a b c d h = h
+passed_on j i r r' n n' w w' v v' s bytes (Err Ended) a b c d h = h
+passed_on j i r r' n n' w w' v v' s bytes (Err (BadIndex l)) a b c d h = h

@@ -1,7 +1,4 @@
 -- The code's own steps and fast ways. Trust needs no reading of them.
-pub mod ByLine
 pub mod Held
-pub mod Layers
 pub mod PageSinks
-pub mod Points
 pub mod Steps

@@ -7,7 +7,7 @@ ghost use Rattle.page_roff_lines.specs.Lines.{Line};
 ghost use Rattle.page_roff_source.specs.laws.Views.{EachIsWithin};
 ghost use Rattle.page_core_base.specs.declared.limits.TheConstants.{EXPAND, REREAD};
 ghost use Rattle.page_engine_lines.specs.Acts.{lines_after};
-ghost use Rattle.page_engine.specs.machine.ByLine as by_line;
+ghost use Rattle.page_engine.specs.machine.PageSinks as by_line;
 ghost use Rattle.page_engine.specs.Edges.{Edge, start};
 ghost use Rattle.page_engine.specs.laws.Views.{IsReached, counts_at};
 ghost use Rattle.page_engine.specs.Page.{settled, edge, page, raw_lines};

@@ -1,3 +1,1 @@
-pub mod FieldLemmas
 pub mod PrintingLemmas
-pub mod RowLemmas

@@ -1,28 +1,87 @@
--- What tokens print, and its columns: helpers of proofs.
-use Rattle.std.proofs.Common.{◌≡◌, ℕ, ◌+◌, ◌-◌, ◌<◌, ◌≤◌, ◌*◌, ◌==◌, nat_lt, true, false, List, [], ◌∷◌, ◌++◌, length, replicate, codes, refl, ap, sym, ◌∙◌, arith, append_assoc, IsAscii, IsUtf8, chars, encode_utf8}
+-- The fields of a header or footer: helpers of proofs.
+use Rattle.std.proofs.Common.{◌≡◌, ℕ, zero, suc, ◌-◌, ◌<◌, ◌≤◌, length, List, [], ◌∷◌, ◌++◌, take, drop, refl, ap, ◌∙◌, arith, ◌+◌, ◌*◌, ◌==◌, nat_lt, true, false, replicate, codes, sym, append_assoc, IsAscii, IsUtf8, chars, encode_utf8, map, append-nil}
+use Rattle.std.specs.List.{flat_map, list_all}
+use Rattle.std.specs.Str.Lossy.{utf8_valid_len}
+use Rattle.page_core_base.specs.Messages.{text_front}
+use Rattle.page_core_base.specs.declared.places.Place.{Place}
+use Rattle.page_roff_syntax.specs.declared.quotes.Argument.{Argument}
+use Rattle.page_sets_names.specs.declared.macro_names.Prologue.TheVariants.{TH}
+use Rattle.page_engine_header.specs.Header.{argument_cut, fields_after, first_field, or_else, volume_of, in_font, tokens_columns, tokens_items, name_tokens, in_rows}
+use Rattle.page_engine_header.specs.declared.fields.Fields.{Fields}
 use Rattle.std.proofs.lemmas.Bool.{and_parts}
 use Rattle.std.proofs.lemmas.Bool.Decides.{nat_tests}
 use Rattle.std.proofs.lemmas.List.{replicate-append-replicate}
 use Rattle.std.proofs.lemmas.List.Sums.{sum_by-append}
 use Rattle.std.proofs.lemmas.Str.{chars-nil, chars_past_char, encodes-chars, length-le-encodes, chars-IsAscii, IsUtf8-from_ascii}
 use Rattle.std.proofs.lemmas.Str.Ascii.{IsAscii-nil, IsAscii-cons}
-use Rattle.page_core_base.proofs.CharacterLemmas.{characters_of-text}
-use Rattle.page_core_base.specs.Rows.{shown}
+use Rattle.page_core_base.proofs.LatchLemmas.{characters_of-text}
+use Rattle.page_core_base.specs.Rows.{shown, Item}
 use Rattle.page_core_base.specs.Texts.{characters_of}
-use Rattle.page_core_base.specs.laws.Views.{is_printable, is_printable_ascii}
-use Rattle.page_core_base.specs.declared.pieces.Piece.TheVariants.{Char}
+use Rattle.page_core_base.specs.laws.Views.{is_printable, is_printable_ascii, Came, TakesKept, font_cells, is_kept, word_letters}
+use Rattle.page_core_base.specs.declared.pieces.Piece.TheVariants.{Char, Break}
 use Rattle.page_core_base.specs.declared.cells.Font.{Font}
 use Rattle.page_core_base.specs.declared.page_settings.Output.{Output}
-use Rattle.page_core_base.specs.declared.places.Place.{Place}
 use Rattle.page_core_escapes.specs.Tokens.{TextToken, tokens_of, plain}
 use Rattle.page_core_numbers.specs.Columns.{characters_columns}
-use Rattle.page_core_tables.proofs.PrintedLemmas.{char_columns-printable}
+use Rattle.page_core_tables.proofs.Tables.{char_columns-printable}
 use Rattle.page_core_tables.specs.Glyphs.{Printing, char_columns, char_printed, is_control}
 use Rattle.page_scopes_words.specs.declared.fonts.Fonts.{Fonts}
 use Rattle.page_scopes_words.specs.Fonts.{roman_fonts, token_fonts}
 use Rattle.page_scopes_words.specs.Words.{plain_printed, token_printed}
-use Rattle.page_engine_header.specs.Header.{in_font, tokens_columns, tokens_items, name_tokens}
 use Rattle.page_engine_header.specs.laws.Views.{fonts_after}
+use Rattle.std.specs.Borrow.{GName}
+use Rattle.page_core_base.specs.declared.limits.TheConstants.{CELLS}
+use Rattle.page_core_base.specs.declared.cells.Cell.{Cell}
+use Rattle.page_core_base.specs.declared.pieces.Piece.{Piece}
+use Rattle.page_engine_header.specs.machine.RowPlans.{RowPlanned, RowLeft}
+
+-- ---- a front of a text
+
+take_short : (n : ℕ) (text : List ℕ) → length (take n text) ≤ length text
+take_short zero text = omega arith
+take_short (suc n) [] = omega arith
+take_short (suc n) (b ∷ text) = let h = take_short n text in omega (arith, h)
+
+pub front_within : (n : ℕ) (text : List ℕ) → length (text_front n text) ≤ length text
+unfolding text_front
+front_within n text =
+    let a = take_short (utf8_valid_len (take n text)) (take n text) in
+    let b = take_short n text in
+    omega (arith, a, b)
+
+-- ---- arguments, one after another
+
+pub drop_two : {A : Type 0} → (xs : List A) → drop 1 (drop 1 xs) ≡ drop 2 xs
+drop_two [] = refl
+drop_two (x ∷ xs) = refl
+
+pub drop_three : {A : Type 0} → (xs : List A) → drop 1 (drop 2 xs) ≡ drop 3 xs
+drop_three [] = refl
+drop_three (x ∷ []) = refl
+drop_three (x ∷ y ∷ ys) = refl
+
+pub drop_four : {A : Type 0} → (xs : List A) → drop 1 (drop 3 xs) ≡ drop 4 xs
+drop_four [] = refl
+drop_four (x ∷ []) = refl
+drop_four (x ∷ y ∷ []) = refl
+drop_four (x ∷ y ∷ z ∷ zs) = refl
+
+pub th_read : (os : List ℕ) (all a b c d : List (Argument (List ℕ))) (title section date source volume : List ℕ) (f : Fields)
+    → a ≡ drop 1 all → b ≡ drop 1 a → c ≡ drop 1 b → d ≡ drop 1 c → title ≡ first_field all → section ≡ first_field a → date ≡ first_field b
+    → source ≡ or_else (first_field c) os → volume ≡ or_else (first_field d) (volume_of section)
+    → record { title = title; section = section; date = date; source = source; volume = volume; os_came = f.os_came } ≡ fields_after TH os all f
+th_read os all a b c d title section date source volume f p q r s t u v w x =
+    let second : b ≡ drop 2 all = q ∙ ap (drop 1) p ∙ drop_two all in
+    let third : c ≡ drop 3 all = r ∙ ap (drop 1) second ∙ drop_three all in
+    let fourth : d ≡ drop 4 all = s ∙ ap (drop 1) third ∙ drop_four all in
+    rw (x, w, v, u, t, fourth, third, second, p) refl
+
+pub cuts_more : (place : Place) (left : ℕ) (all others : List (Argument (List ℕ))) (argument : Argument (List ℕ)) → all ≡ argument ∷ others → 0 < left
+    → flat_map (argument_cut place) (take left all) ≡ argument_cut place argument ++ flat_map (argument_cut place) (take (left - 1) others)
+cuts_more place zero all others argument e h = absurd (omega arith)
+cuts_more place (suc n) all others argument e h = let m : suc n - 1 ≡ n = omega arith in rw (e, m) refl
+
+-- ---- What tokens print, and its columns: helpers of proofs.
 
 -- ---- tokens after tokens
 
@@ -172,3 +231,75 @@ name_items output place title section first second e f =
 -- a quote
 pub quote_column : characters_columns (codes "\"") ≡ 1
 quote_column = rw (char_columns-printable 34 (omega arith) (omega arith)) (omega arith)
+
+-- ---- How a latch ends full rows.
+
+none_in_rows : (room : ℕ) → in_rows room [] ≡ []
+unfolding in_rows
+none_in_rows room = refl
+
+-- a character that there is room for
+pub row_more : (room : ℕ) (item : Item) (rest follows : List Item) → 0 < room
+    → in_rows room (item ∷ rest) ++ follows ≡ item ∷ (in_rows (room - 1) rest ++ follows)
+unfolding in_rows
+row_more zero item rest follows h = absurd (omega arith)
+row_more (suc room) item rest follows h =
+    let e : room ≡ suc room - 1 = omega arith in
+    ap (λ (n : ℕ). item ∷ (in_rows n rest ++ follows)) e
+
+-- one that begins the next row
+pub row_full : (room : ℕ) (item : Item) (rest follows : List Item) → room ≡ 0
+    → in_rows room (item ∷ rest) ++ follows ≡ shown Break ∷ item ∷ (in_rows (CELLS - 1) rest ++ follows)
+unfolding in_rows
+row_full zero item rest follows h = refl
+row_full (suc room) item rest follows h = absurd (omega (arith, h))
+
+-- all of the characters were planned, and none is left
+pub rows_came : {P O : Type 0} (left : P → O → List Item → Type 0) → {name last : GName} {s t : O} {room end : ℕ} (items : List Item)
+    → ((plan : RowPlanned P) (rest : List Item) → RowLeft left plan name s room (items ++ rest) → RowLeft left plan last t end rest)
+    → (plan : P) (rest : List Item) → left plan s (in_rows room items ++ rest) → (last ≡ name) × left plan t rest
+rows_came left {name = name} {end = end} items came plan rest h =
+    let done = came (record { plan = plan; name = name; follows = rest }) [] (record { same_loan = refl; came = rw append-nil h }) in
+    (done.same_loan, rw (none_in_rows end) at done.came)
+
+-- ---- characters in a font, at once
+
+-- characters that there is room for
+pub row_run : (room : ℕ) (font : Font) (place : Place) (text : List ℕ) (rest follows : List Item) → length text ≤ room
+    → in_rows room (in_font font place text ++ rest) ++ follows ≡ in_font font place text ++ (in_rows (room - length text) rest ++ follows)
+row_run room font place [] rest follows h =
+    let e : room ≡ room - 0 = omega arith in
+    ap (λ (n : ℕ). in_rows n rest ++ follows) e
+row_run room font place (c ∷ cs) rest follows h =
+    let some : 0 < room = omega arith in
+    let fit : length cs ≤ room - 1 = omega arith in
+    let e : room - 1 - length cs ≡ room - length (c ∷ cs) = omega arith in
+    row_more room (shown (Char c font place)) (in_font font place cs ++ rest) follows some
+    ∙ ap (λ (items : List Item). shown (Char c font place) ∷ items)
+    (row_run (room - 1) font place cs rest follows fit ∙ ap (λ (n : ℕ). in_font font place cs ++ (in_rows n rest ++ follows)) e)
+
+abbrev run_pieces : Font → Place → List ℕ → List (Piece (List ℕ))
+run_pieces font place text = map (λ c. Char c font place) text
+
+run_kept : (font : Font) (place : Place) (text : List ℕ) → list_all is_kept (run_pieces font place text) ≡ true
+run_kept font place [] = refl
+run_kept font place (c ∷ cs) = run_kept font place cs
+
+run_cells : (font : Font) (place : Place) (text : List ℕ) → font_cells font text ≡ word_letters (run_pieces font place text)
+run_cells font place [] = refl
+run_cells font place (c ∷ cs) = ap (λ (cells : List Cell). record { c = c; font = font } ∷ cells) (run_cells font place cs)
+
+run_items : (font : Font) (place : Place) (text : List ℕ) → map shown (run_pieces font place text) ≡ in_font font place text
+run_items font place [] = refl
+run_items font place (c ∷ cs) = ap (λ (items : List Item). shown (Char c font place) ∷ items) (run_items font place cs)
+
+-- those that were taken came
+pub run_came : {P O : Type 0} (left : P → O → List Item → Type 0) → {s t : O} (font : Font) (place : Place) (text : List ℕ)
+    → TakesKept text font true (Came left) s t → Came left s (in_font font place text) t
+run_came left font place text taken = λ plan rest h.
+    taken (run_pieces font place text) (run_kept font place text) (run_cells font place text) plan rest (rw (run_items font place text) h)
+
+-- those that were not taken changed nothing
+pub run_stays : {P O : Type 0} (left : P → O → List Item → Type 0) → {s t : O} (font : Font) (place : Place) (text : List ℕ)
+    → TakesKept text font false (Came left) s t → Came left s [] t
+run_stays left font place text taken = taken (run_pieces font place text) (run_kept font place text) (run_cells font place text)

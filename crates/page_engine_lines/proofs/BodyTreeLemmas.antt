@@ -7,23 +7,17 @@ use Rattle.page_scopes.specs.laws.Views as scopes_laws
 use Rattle.page_scopes.specs.laws.Views.{layout_tables}
 use Rattle.page_scopes.specs.declared.layouts.Kept.{Kept}
 use Rattle.page_scopes.specs.declared.layouts.LayoutState.{LayoutState}
-use Rattle.page_scopes_tree.specs.machine.Asides.{With, act, aside, Beside, beside, before_leaf}
+use Rattle.page_scopes_tree.specs.machine.Nestings.{With, act, aside, Beside, beside, before_leaf, step, step_items, placed_items, ended_items, count_ended, state_left, IsSound, standing_of}
 use Rattle.page_scopes_tree.specs.Ends.{TreeEdge}
 use Rattle.page_scopes_tree.specs.laws.Views.{labels, Step, comes, does, steps_of}
-use Rattle.page_scopes_tree.specs.machine.Machines.{step, step_items, placed_items, ended_items, count_ended, state_left}
-use Rattle.page_scopes_tree.specs.machine.Nestings.{IsSound, standing_of}
-use Rattle.page_scopes_tree.proofs.AsideLemmas.{sound_with, act_items, act_step}
-use Rattle.page_scopes_tree.proofs.CutLemmas.{settled-append, edge-append}
+use Rattle.page_scopes_tree.proofs.EdgeLemmas.{sound_with, act_items, act_step, settled-append, edge-append, edge-run}
 use Rattle.page_scopes_tree.proofs.RunLemmas.{settled-run}
-use Rattle.page_scopes_tree.proofs.EdgeLemmas.{edge-run}
-use Rattle.page_scopes_tree.specs.machine.Frames.{framed}
-use Rattle.page_scopes_tree.specs.machine.Nests.{scopes_nesting, step_standing}
+use Rattle.page_scopes_tree.specs.machine.Stacks.{framed, scopes_nesting, step_standing}
 use Rattle.page_core_base.specs.declared.limits.TheConstants.{SCOPES}
 use Rattle.page_scopes_tree.specs.declared.acts.Act.{Act}
 use Rattle.page_scopes_tree.specs.declared.acts.Act.TheVariants as acts
 use Rattle.page_scopes_labels.specs.declared.labels.Label.{Label}
-use Rattle.page_scopes_tree.proofs.FitLemmas.{scopes-sound}
-use Rattle.page_scopes_tree.proofs.StandingLemmas.{done-standing}
+use Rattle.page_scopes_tree.proofs.FitLemmas.{scopes-sound, done-standing}
 use Rattle.page_sets_lines.specs.declared.events.EventKind.{EventKind}
 use Rattle.page_sets_lines.specs.declared.events.EventKind.TheVariants as kinds
 use Rattle.page_sets_lines.specs.declared.events.Event.{Event}
@@ -33,7 +27,7 @@ use Rattle.page_sets_names.specs.declared.macro_names.Prologue.{Prologue}
 use Rattle.page_engine_lines.specs.Bodies.{BodyEdge, HeaderEdge}
 use Rattle.page_engine_lines.specs.laws.Views.{begin_items, scope_items, with_scopes, kind_items, kind_after, event_items, event_after, events_items, events_after, end_items}
 use Rattle.page_engine_lines.specs.Trees.{header_at}
-use Rattle.page_engine_lines.specs.machine.Trees.{Aside, titles, closes, kind_steps, events_steps, page_end_steps, body_sides, body_nesting, body_layout, opened, body_of, tree_items, tree_after}
+use Rattle.page_engine_lines.specs.machine.Lines.{Aside, titles, closes, kind_steps, events_steps, page_end_steps, body_sides, body_nesting, body_layout, opened, body_of, tree_items, tree_after}
 
 sound : IsSound body_nesting SCOPES
 sound = sound_with scopes_nesting SCOPES scopes-sound

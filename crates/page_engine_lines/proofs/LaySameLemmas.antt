@@ -3,17 +3,17 @@ use Rattle.std.proofs.Common.{◌≡◌, Bool, List, [], ◌∷◌, ◌++◌, ma
 use Rattle.page_engine_lines.specs.Bodies.{BodyEdge, HeaderEdge}
 use Rattle.page_engine_lines.specs.Trees as new
 use Rattle.page_engine_lines.specs.Trees.{PageAct, Step, BlockForest, After, Rest, BodyState, LaidForest, tree, step_gave, begin_gave, end_gave, scope_of, lay, lay_outer, tree_of, laid_by}
-use Rattle.page_engine_lines.specs.machine.Trees.{as_act, body_layout, body_nesting}
-use Rattle.page_engine_lines.specs.machine.Trees as trees
+use Rattle.page_engine_lines.specs.machine.Lines.{as_act, body_layout, body_nesting}
+use Rattle.page_engine_lines.specs.machine.Lines as trees
 use Rattle.page_engine_lines.proofs.TreeSameLemmas.{A, OldRest, leaf_old, forest_old, afters_old, rest_old, AllStay, Proper, tree_law, mode_law, tree_proper}
 use Rattle.page_scopes.specs.declared.layouts.Kept.{Kept}
 use Rattle.page_scopes.specs.declared.layouts.LayoutState.{LayoutState}
 use Rattle.page_scopes_labels.specs.declared.labels.Label.{Label}
 use Rattle.page_scopes_tree.specs.laws.Views as oldsteps
-use Rattle.page_scopes_tree.specs.machine.Asides.{act, Beside}
-use Rattle.page_scopes_tree.specs.machine.Forests as forests
-use Rattle.page_scopes_tree.specs.machine.Layouts as lays
-use Rattle.page_scopes_tree.specs.machine.Nests.{refused}
+use Rattle.page_scopes_tree.specs.machine.Nestings.{act, Beside}
+use Rattle.page_scopes_tree.specs.machine.Nestings as forests
+use Rattle.page_scopes_tree.specs.machine.Nestings as lays
+use Rattle.page_scopes_tree.specs.machine.Stacks.{refused}
 use Rattle.page_scopes_tree.specs.declared.nestings.Scope.{Scope}
 
 abbrev OldState : Type 0

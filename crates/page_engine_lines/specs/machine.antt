@@ -1,5 +1,3 @@
 -- The code's own steps and fast ways. Trust needs no reading of them.
-pub mod BodyOuts
 pub mod Given
 pub mod Lines
-pub mod Trees

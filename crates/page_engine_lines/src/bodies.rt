@@ -70,7 +70,7 @@ struct BodyOut<'b, 'o, O> {
 }
 
 impl<O: PieceOut> EventOut for BodyOut<'_, '_, O> {
-    ghost use Rattle.page_engine_lines.specs.machine.BodyOuts.{PlannedEvents, LeftEvents};
+    ghost use Rattle.page_engine_lines.specs.machine.Given.{PlannedEvents, LeftEvents};
 
     ghost Plan = { PlannedEvents O.Plan };
 

@@ -7,7 +7,7 @@ ghost use Rattle.page_sets_lines.specs.declared.events.Event.{Event};
 ghost use Rattle.page_engine_lines.specs.Bodies.{BodyEdge};
 ghost use Rattle.page_engine_lines.specs.laws.Views.{end_items, events_after, events_items};
 ghost use Rattle.page_engine_lines.specs.Trees.{Step, events_steps, page_end_steps, reports, tree_after, tree_items};
-ghost use Rattle.page_engine_lines.specs.machine.Trees as machine;
+ghost use Rattle.page_engine_lines.specs.machine.Lines as machine;
 
 /// The block tree of all events of a body, with the header before the event that begins it, gives what they give one after another, and leaves the
 /// same; messages are given where they are; and at the page's end come a missing header and the end of all scopes.

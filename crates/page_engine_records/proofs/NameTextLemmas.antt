@@ -1,12 +1,18 @@
--- What a reader of pieces keeps is the text of the section NAME.
-use Rattle.std.proofs.Common.{◌≡◌, ℕ, ◌≤◌, Bool, true, false, nat_lt, ◌==◌, List, [], ◌∷◌, ◌++◌, length, take, map, Some, inl, inr, refl, ap, sym, ◌∙◌, arith, if◌then◌else◌}
-use Rattle.std.specs.Prelude.{codes, filter, option_map}
-use Rattle.std.proofs.Math.Path.{subst}
-use Rattle.std.specs.Str.{bytes_eq}
+-- What a reader of pieces keeps.
+use Rattle.std.proofs.Common.{◌≡◌, ℕ, ◌+◌, ◌<◌, ◌≤◌, nat_lt, false, List, [], ◌∷◌, ◌++◌, length, drop, get_or, inl, inr, refl, sym, arith, add-one, drop-cons, Result, Ok, Err, zero, suc, Bool, true, take, map, ap, ◌∙◌, append_assoc, append-nil, length-append, length-take, ◌==◌, Some, if◌then◌else◌}
 use Rattle.std.proofs.lemmas.Bool.{cases_Bool}
-use Rattle.std.proofs.lemmas.List.{map-append}
-use Rattle.std.proofs.Math.Seq.{take-length}
+use Rattle.std.proofs.lemmas.List.{drop_all, take-append-le, take-take, map-append}
+use Rattle.page_core_base.specs.laws.Views.{Emits}
 use Rattle.page_core_base.specs.Rows.{Item, noted, shown}
+use Rattle.page_core_base.specs.declared.faults.Fault.{Fault}
+use Rattle.page_engine_records.proofs.NameLemmas.{without_room}
+use Rattle.page_engine_records.specs.NameTexts.{TEXT, Sign, character, gap, joint, paragraph, heading, is_headed, text_after, text_of, up_to_heading, after_name, characters, kept_text, margin_after, name_text, piece_signs, signs_of}
+use Rattle.page_engine_records.specs.machine.NameTexts.{read, spaced, with_byte, with_character, with_characters, apart, has_ended, is_after, kept_by, kept_of, read_piece, reader_at, taken, with_paragraph, with_top_heading, Never, Took}
+use Rattle.page_engine_records.specs.declared.name_readers.NameReader.{NameReader}
+use Rattle.std.specs.Prelude.{codes, filter, option_map}
+use Rattle.std.specs.Str.{bytes_eq}
+use Rattle.std.proofs.Math.Path.{subst}
+use Rattle.std.proofs.Math.Seq.{take-length}
 use Rattle.page_core_base.specs.Texts.{characters_of}
 use Rattle.page_core_base.specs.declared.cells.Font.{Font}
 use Rattle.page_core_base.specs.declared.page_settings.Output.TheVariants.{Ascii}
@@ -19,12 +25,182 @@ use Rattle.page_engine_header.specs.Header.{in_font, tokens_items}
 use Rattle.page_core_escapes.specs.Tokens.{TextToken}
 use Rattle.page_scopes_words.specs.Fonts.{token_fonts}
 use Rattle.page_scopes_words.specs.declared.fonts.Fonts.{Fonts}
-use Rattle.page_engine_records.specs.NameTexts.{Sign, character, gap, joint, paragraph, heading, TEXT, after_name, characters, is_headed, kept_text, margin_after, name_text, piece_signs, signs_of, text_of, up_to_heading}
-use Rattle.page_engine_records.specs.machine.NameTexts.{apart, has_ended, is_after, kept_by, kept_of, read, read_piece, reader_at, spaced, taken, with_byte, with_character, with_characters, with_paragraph, with_top_heading}
-use Rattle.page_engine_records.specs.declared.name_readers.NameReader.{NameReader}
 use Rattle.page_engine_records.specs.declared.name_readers.Side.{Side}
 use Rattle.page_engine_records.specs.declared.name_readers.Side.TheVariants.{Before, Inside, After}
-use Rattle.page_engine_records.proofs.SignLemmas.{character_kept, characters_headed, characters_up_to, front-longer, front-same, headed_none, more-character, more-gap, more-joint, more-paragraph, more_text, name-same, no_signs, text_of-append, waits, waits-append}
+
+-- ---- a blank that waits
+
+pub spaced_joined : (text : List ℕ) → spaced false text ≡ text
+spaced_joined [] = refl
+spaced_joined (byte ∷ bytes) = refl
+
+-- ---- characters
+
+pub characters-append : (r : NameReader) (xs ys : List ℕ) → with_characters r (xs ++ ys) ≡ with_characters (with_characters r xs) ys
+unfolding with_characters
+characters-append r [] ys = refl
+characters-append r (x ∷ xs) ys = characters-append (with_character r x) xs ys
+
+pub characters_none : (r : NameReader) → with_characters r [] ≡ r
+unfolding with_characters
+characters_none r = refl
+
+pub characters_one : (r : NameReader) (c : ℕ) → with_characters r (c ∷ []) ≡ with_character r c
+unfolding with_characters
+characters_one r c = refl
+
+pub characters_at : (r : NameReader) (xs : List ℕ) (i : ℕ) → i < length xs
+    → with_characters r (drop i xs) ≡ with_characters (with_character r (get_or xs i 0)) (drop (i + 1) xs)
+unfolding with_characters
+characters_at r xs i h = rw (add-one, drop-cons xs i 0) refl
+
+pub characters_end : (r : NameReader) (xs : List ℕ) (i : ℕ) → length xs ≤ i → with_characters r (drop i xs) ≡ r
+characters_end r xs i h = rw (drop_all i xs h) (characters_none r)
+
+-- ---- a text without room for more
+
+full-character : (r : NameReader) (c : ℕ) → r.is_apart ≡ false → length r.text ≡ TEXT → with_character r c ≡ r
+full-character r c joined full =
+    let text : with_byte (spaced r.is_apart r.text) c ≡ r.text =
+    rw (joined, spaced_joined) (without_room r.text c (omega (arith, full)) (omega (arith, full))) in
+    elim (cases_Bool (nat_lt c 128)) [ inl ascii ↦ rw (ascii, text, sym joined) refl | inr other ↦ rw other refl ]
+
+pub full-same : (r : NameReader) (cs : List ℕ) → r.is_apart ≡ false → length r.text ≡ TEXT → with_characters r cs ≡ r
+unfolding with_characters
+full-same r [] joined full = refl
+full-same r (c ∷ cs) joined full = rw (full-character r c joined full) (full-same r cs joined full)
+
+-- ---- a sink that never fails
+
+pub came : {A : Type 0} (res : Result A Fault) (s t : NameReader) (items : List Item) → Emits res Took (λ r fault xs u. Never r xs u) s items t → t ≡ read s items
+came (Ok x) s t items h = h
+came (Err fault) s t items h = absurd h
+
+-- ---- Signs one after another, and the texts of them.
+
+-- ---- one list after another
+
+-- whether a gap waits after signs
+abbrev pub waits : Bool → List Sign → Bool
+waits is_apart [] = is_apart
+waits is_apart (character c ∷ signs) = waits false signs
+waits is_apart (gap ∷ signs) = waits true signs
+waits is_apart (joint ∷ signs) = waits false signs
+waits is_apart (paragraph ∷ signs) = waits true signs
+waits is_apart (heading ∷ signs) = waits is_apart signs
+
+-- the text of signs after a text
+abbrev pub more_text : List ℕ → (is_apart : Bool) → List Sign → List ℕ
+more_text [] is_apart signs = text_of signs
+more_text (byte ∷ bytes) is_apart signs = text_after is_apart signs
+
+pub waits-append : (is_apart : Bool) (xs ys : List Sign) → waits is_apart (xs ++ ys) ≡ waits (waits is_apart xs) ys
+waits-append is_apart [] ys = refl
+waits-append is_apart (character c ∷ xs) ys = waits-append false xs ys
+waits-append is_apart (gap ∷ xs) ys = waits-append true xs ys
+waits-append is_apart (joint ∷ xs) ys = waits-append false xs ys
+waits-append is_apart (paragraph ∷ xs) ys = waits-append true xs ys
+waits-append is_apart (heading ∷ xs) ys = waits-append is_apart xs ys
+
+text_after-append : (is_apart : Bool) (xs ys : List Sign) → text_after is_apart (xs ++ ys) ≡ text_after is_apart xs ++ text_after (waits is_apart xs) ys
+text_after-append is_apart [] ys = refl
+text_after-append true (character c ∷ xs) ys = ap (λ (t : List ℕ). 32 ∷ c ∷ t) (text_after-append false xs ys)
+text_after-append false (character c ∷ xs) ys = ap (λ (t : List ℕ). c ∷ t) (text_after-append false xs ys)
+text_after-append is_apart (gap ∷ xs) ys = text_after-append true xs ys
+text_after-append is_apart (joint ∷ xs) ys = text_after-append false xs ys
+text_after-append is_apart (paragraph ∷ xs) ys = text_after-append true xs ys
+text_after-append is_apart (heading ∷ xs) ys = text_after-append is_apart xs ys
+
+pub text_of-append : (is_apart : Bool) (xs ys : List Sign) → text_of (xs ++ ys) ≡ text_of xs ++ more_text (text_of xs) (waits is_apart xs) ys
+text_of-append is_apart [] ys = refl
+text_of-append is_apart (character c ∷ xs) ys = ap (λ (t : List ℕ). c ∷ t) (text_after-append false xs ys)
+text_of-append is_apart (gap ∷ xs) ys = text_of-append true xs ys
+text_of-append is_apart (joint ∷ xs) ys = text_of-append false xs ys
+text_of-append is_apart (paragraph ∷ xs) ys = text_of-append true xs ys
+text_of-append is_apart (heading ∷ xs) ys = text_of-append is_apart xs ys
+
+-- ---- a sign
+
+pub no_signs : (text : List ℕ) (is_apart : Bool) → text ++ more_text text is_apart [] ≡ text
+no_signs [] is_apart = refl
+no_signs (byte ∷ bytes) is_apart = append-nil (byte ∷ bytes)
+
+pub more-gap : (text : List ℕ) (is_apart : Bool) (signs : List Sign) → more_text text is_apart (gap ∷ signs) ≡ more_text text true signs
+more-gap [] is_apart signs = refl
+more-gap (byte ∷ bytes) is_apart signs = refl
+
+pub more-joint : (text : List ℕ) (is_apart : Bool) (signs : List Sign) → more_text text is_apart (joint ∷ signs) ≡ more_text text false signs
+more-joint [] is_apart signs = refl
+more-joint (byte ∷ bytes) is_apart signs = refl
+
+pub more-paragraph : (text : List ℕ) (is_apart : Bool) (signs : List Sign) → more_text text is_apart (paragraph ∷ signs) ≡ more_text text true signs
+more-paragraph [] is_apart signs = refl
+more-paragraph (byte ∷ bytes) is_apart signs = refl
+
+-- a text and a character
+abbrev pub with_sign : List ℕ → (is_apart : Bool) → ℕ → List ℕ
+with_sign text is_apart c = text ++ more_text text is_apart (character c ∷ [])
+
+pub more-character : (text : List ℕ) (is_apart : Bool) (c : ℕ) (signs : List Sign)
+    → text ++ more_text text is_apart (character c ∷ signs) ≡ with_sign text is_apart c ++ more_text (with_sign text is_apart c) false signs
+more-character [] is_apart c signs = refl
+more-character (byte ∷ bytes) true c signs = sym (append_assoc (byte ∷ bytes) (32 ∷ c ∷ []) (text_after false signs))
+more-character (byte ∷ bytes) false c signs = sym (append_assoc (byte ∷ bytes) (c ∷ []) (text_after false signs))
+
+-- ---- the front of a text
+
+take-take-append : (n : ℕ) (xs ys : List ℕ) → take n (take n xs ++ ys) ≡ take n (xs ++ ys)
+take-take-append zero xs ys = refl
+take-take-append (suc n) [] ys = refl
+take-take-append (suc n) (x ∷ xs) ys = ap (λ (l : List ℕ). x ∷ l) (take-take-append n xs ys)
+
+pub character_kept : (text : List ℕ) (is_apart : Bool) (c : ℕ) → with_byte (spaced is_apart (take TEXT text)) c ≡ take TEXT (with_sign text is_apart c)
+character_kept [] is_apart c = refl
+character_kept (byte ∷ bytes) false c = take-take-append TEXT (byte ∷ bytes) (c ∷ [])
+character_kept (byte ∷ bytes) true c =
+    let text = byte ∷ bytes in
+    take-take-append TEXT (take TEXT text ++ 32 ∷ []) (c ∷ [])
+    ∙ (ap (λ (l : List ℕ). take TEXT l) (append_assoc (take TEXT text) (32 ∷ []) (c ∷ [])) ∙ take-take-append TEXT text (32 ∷ c ∷ []))
+
+-- what is kept stays its front
+pub front-same : (n front : ℕ) (xs ys : List ℕ) → front ≤ length (take n xs) → take front (take n (xs ++ ys)) ≡ take front (take n xs)
+front-same n front xs ys h =
+    let within : front ≤ n = omega (arith, h, length-take n xs) in
+    let short : front ≤ length xs = omega (arith, h, length-take n xs) in
+    take-take front n (xs ++ ys) within ∙ (take-append-le front xs ys short ∙ sym (take-take front n xs within))
+
+pub front-longer : (n front : ℕ) (xs ys : List ℕ) → front ≤ length (take n xs) → front ≤ length (take n (xs ++ ys))
+front-longer n front xs ys h = omega (arith, h, length-take n xs, length-take n (xs ++ ys), length-append xs ys)
+
+-- the one word NAME is not cut
+pub name-same : (text : List ℕ) → bytes_eq (take TEXT text) (codes "NAME") ≡ bytes_eq text (codes "NAME")
+name-same [] = refl
+name-same (a ∷ []) = refl
+name-same (a ∷ b ∷ []) = refl
+name-same (a ∷ b ∷ c ∷ []) = refl
+name-same (a ∷ b ∷ c ∷ d ∷ []) = refl
+name-same (a ∷ b ∷ c ∷ d ∷ e ∷ text) = refl
+
+-- ---- characters alone
+
+pub characters_headed : (cs : List ℕ) → is_headed (map character cs) ≡ false
+characters_headed [] = refl
+characters_headed (c ∷ cs) = characters_headed cs
+
+pub characters_up_to : (cs : List ℕ) → up_to_heading (map character cs) ≡ map character cs
+characters_up_to [] = refl
+characters_up_to (c ∷ cs) = rw (characters_headed cs) (ap (λ (l : List Sign). character c ∷ l) (characters_up_to cs))
+
+-- nothing is before the paragraph of a heading, where that is the first one
+pub headed_none : (signs : List Sign) → is_headed signs ≡ true → up_to_heading signs ≡ []
+headed_none [] h = let no : ⊥ = cc in absurd no
+headed_none (character c ∷ signs) h = rw h refl
+headed_none (gap ∷ signs) h = rw h refl
+headed_none (joint ∷ signs) h = rw h refl
+headed_none (paragraph ∷ signs) h = let no : ⊥ = cc in absurd no
+headed_none (heading ∷ signs) h = refl
+
+-- ---- What a reader of pieces keeps is the text of the section NAME.
 
 -- ---- after the section NAME
 

@@ -1,5 +1,2 @@
 -- The code's own steps and fast ways. Trust needs no reading of them.
-pub mod Fronts
 pub mod NameTexts
-pub mod ReaderSinks
-pub mod Steps

@@ -4,9 +4,8 @@ ghost use Rattle.std.specs.Prelude.{◌≡◌, ◌<◌, ◌+◌, ◌^◌, None, 
 ghost use Rattle.page_core_base.specs.Texts.{IsLine};
 ghost use Rattle.page_roff_lines.specs.laws.Cutting.{line_of};
 ghost use Rattle.page_engine_lines.specs.machine.Lines.{source_after, source_items};
-ghost use Rattle.page_engine_records.specs.machine.Fronts as fronts;
-ghost use Rattle.page_engine_records.specs.machine.NameTexts.{read};
-ghost use Rattle.page_engine_records.specs.machine.Steps.{end_read, front_of};
+ghost use Rattle.page_engine_records.specs.machine.NameTexts as fronts;
+ghost use Rattle.page_engine_records.specs.machine.NameTexts.{read, end_read, front_of};
 
 use crate::name_readers::{NameReader, Side};
 use page_core_base::{Fault, Settings};

@@ -5,8 +5,7 @@ ghost use Rattle.page_core_base.specs.Texts.{characters_of};
 ghost use Rattle.page_core_base.specs.laws.Views.{piece_of};
 ghost use Rattle.page_core_tables.specs.laws.Views.{printed_view};
 ghost use Rattle.page_scopes_words.specs.Words.{plain_printed};
-ghost use Rattle.page_engine_records.specs.machine.NameTexts.{has_ended, read, reader_at, taken, with_character, with_characters, with_heading, with_paragraph, with_top_heading};
-ghost use Rattle.page_engine_records.specs.machine.ReaderSinks.{reader-items, reader-messages, reader-notes, reader-well};
+ghost use Rattle.page_engine_records.specs.machine.NameTexts.{has_ended, read, reader_at, taken, with_character, with_characters, with_heading, with_paragraph, with_top_heading, reader-items, reader-messages, reader-notes, reader-well};
 
 use crate::texts::{TEXT, add_byte};
 use page_core_base::{BoundedText, Fault, Note, NoteKind, NoteSink, Output, Piece, PieceSink};

@@ -9,8 +9,7 @@ ghost use Rattle.page_scopes_words.specs.Fonts.{roman_fonts};
 ghost use Rattle.page_scopes_words.specs.Words.{at};
 ghost use Rattle.page_engine_records.specs.Records.{record_by, section_text};
 ghost use Rattle.page_engine_records.specs.Runs.{ReadsRecord, ReadsRecordOver};
-ghost use Rattle.page_engine_records.specs.machine.NameTexts.{kept_of, reader_at};
-ghost use Rattle.page_engine_records.specs.machine.Steps.{Finished, HasRoom, HoldsNothing, IsFresh, ReadsAll, StartsAt, Through, TookLast, TookPart};
+ghost use Rattle.page_engine_records.specs.machine.NameTexts.{kept_of, reader_at, Finished, HasRoom, HoldsNothing, IsFresh, ReadsAll, StartsAt, Through, TookLast, TookPart};
 
 use crate::fronts::PageFront;
 use crate::name_readers::{NameReader, Side};

@@ -16,19 +16,16 @@ use Rattle.page_fill.specs.machine.Fill as fill
 use Rattle.page_fill_rows.specs.OpenRows.{over}
 use Rattle.page_fill_cells.specs.Cells.{blank}
 use Rattle.page_fill_rows.specs.machine.Sheets.{broken, empty_rows}
-use Rattle.page_fill.proofs.Marks.{Mark, letters_of, opening_marks}
-use Rattle.page_fill.proofs.Marks as marks
+use Rattle.page_fill.proofs.MarkedPieces.{Mark, letters_of, opening_marks, run, letters-run, opening-run, run-literal, with_word}
+use Rattle.page_fill.proofs.MarkedPieces as marks
 use Rattle.page_fill.specs.Filled.{CellOrNote}
 use Rattle.page_fill_rows.specs.laws.Views.{IsHeld}
 use Rattle.page_fill.specs.laws.Views.{is_sound}
 use Rattle.page_fill.specs.machine.Items.{laid_items, laid_items-append}
 use Rattle.page_fill.specs.Filling.{Group, words, other, is_of_words, in_front, groups, row_end, blank_rows, after_tag, tag_end, stop_content, other_laid, groups_laid, filled}
-use Rattle.page_fill.proofs.MarkRuns.{run}
-use Rattle.page_fill.proofs.MarkedPieces.{letters-run, opening-run, run-literal, with_word}
 use Rattle.page_fill.proofs.SoundWords.{piece-sound}
-use Rattle.page_fill.proofs.HeldSheets.{piece-held, opening-held}
-use Rattle.page_fill.proofs.FilledWords.{marks_of}
-use Rattle.page_fill.proofs.FilledPieces.{cell-marks, and-then-marks, edge-run, are_items_of_words, words-law}
+use Rattle.page_fill.proofs.WordRunLemmas.{piece-held, opening-held}
+use Rattle.page_fill.proofs.FilledWords.{marks_of, cell-marks, and-then-marks, edge-run, are_items_of_words, words-law}
 
 both : (b : Bool) (x y x' y' : Laid FillEdge) → x ≡ x' → y ≡ y' → (if b then x else y) ≡ (if b then x' else y')
 both true x y x' y' first second = first

@@ -21,7 +21,7 @@ use Rattle.page_fill.specs.laws.Views.{AreKept, goes_on, has_kept_room}
 use Rattle.page_fill.specs.declared.edges.FillEdge.{FillEdge}
 use Rattle.page_fill.specs.machine.Fill.{laid, laid_piece, on_sheet}
 use Rattle.page_fill.proofs.LetteredPieces.{text-printable}
-use Rattle.page_fill.proofs.PlainWordLemmas.{character-text, text-part}
+use Rattle.page_fill.proofs.FilledWords.{character-text, text-part}
 
 -- the row with these cells
 abbrev pub with_cells : FillEdge → List Cell → FillEdge

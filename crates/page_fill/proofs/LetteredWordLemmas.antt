@@ -21,14 +21,14 @@ use Rattle.page_fill_cells.specs.Cells.{blank, cell_columns, columns}
 use Rattle.page_fill_rows.specs.machine.Sheets.{emptied, gives, letters}
 use Rattle.page_fill_rows.specs.machine.Plain.{begun_with, blank_counted, ends_before, free_cells, has_word_room, next_free_cells, spaced_by, taken, word_end, word_start, words_taken, wraps_plain, wraps_words}
 use Rattle.page_fill_rows.proofs.PlainLemmas.{are_plain, cells-fit, columns-blanks, columns-cells, in-plain, spaced-room, taken-cells}
-use Rattle.page_fill_rows.proofs.WordStartLemmas.{start-append}
+use Rattle.page_fill_rows.proofs.GroupLemmas.{start-append}
 use Rattle.page_fill_rows.proofs.WrapLemmas.{both, both-cells}
 use Rattle.page_fill.specs.laws.Views.{AreWords, first_letters, fits_after, is_in_row}
 use Rattle.page_fill.specs.declared.edges.FillEdge.{FillEdge}
 use Rattle.page_fill.specs.machine.Fill.{laid}
-use Rattle.page_fill.specs.machine.LetteredWords.{AreSpaced, LaysUpTo, LaysWords}
-use Rattle.page_fill.specs.machine.PlainWords.{next_front, whole_words}
-use Rattle.page_fill.proofs.BlankTextLemmas.{laid-append}
+use Rattle.page_fill.specs.machine.Items.{AreSpaced, LaysUpTo, LaysWords}
+use Rattle.page_fill.specs.machine.Words.{next_front, whole_words}
+use Rattle.page_fill.proofs.FilledWords.{laid-append}
 use Rattle.page_fill.proofs.LetteredPieces.{back-is-plain, begun_on, bytes_of, front-is-plain, word-is, word-laid, word-laid-after, word_bytes}
 use Rattle.page_fill.proofs.WordRunLemmas.{first-length, joined_words, none-whole, start-blank, start-letters, start-some, whole-words, word-letters}
 

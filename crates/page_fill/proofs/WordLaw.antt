@@ -1,6 +1,6 @@
 -- What a word does to a row: the row takes it where it fits, and else ends before it.
 use Rattle.std.proofs.Common.{◌≡◌, ap, ◌∙◌, ℕ, zero, suc, ◌+◌, ◌<◌, ◌≤◌, ◌==◌, min, Bool, true, false, List, [], ◌∷◌, ◌++◌, length, drop, replicate, inl, inr, refl, arith, append_assoc, append-nil, length-append}
-use Rattle.std.specs.Prelude.{sum_by}
+use Rattle.std.specs.Prelude.{sum_by, if◌then◌else◌}
 use Rattle.std.proofs.lemmas.Bool.{cases_Bool}
 use Rattle.std.proofs.lemmas.Bool.Decides.{nat_tests}
 use Rattle.std.proofs.lemmas.List.{length-replicate, take_at, drop_all}
@@ -13,9 +13,10 @@ use Rattle.page_core_base.specs.declared.limits.TheConstants.{CELLS}
 use Rattle.page_fill_rows.specs.declared.TheConstants.{TAG_COLUMNS}
 use Rattle.page_fill_rows.specs.OpenRows.{Sheet}
 use Rattle.page_fill_cells.specs.Cells.{columns, cell_columns, blank}
-use Rattle.page_fill.specs.Filled.{CellOrNote, shown, RowWord, opens, before_word, with_cell, row_ended, first_word, WordOutcome, fits, too_wide, outcome, by_word, by_blanks, one_word}
-use Rattle.page_fill.specs.Words.{cell_content}
+use Rattle.page_fill.specs.Filled.{CellOrNote, shown, RowWord, opens, before_word, with_cell, row_ended, first_word, WordOutcome, fits, too_wide, outcome, by_word, by_blanks, one_word, noted, counted, row_begun, full_row_ended, too_many, after_note, rest_of_word, filling}
+use Rattle.page_fill.specs.Words.{cell_content, RowWords, going_on}
 use Rattle.page_fill.specs.machine.Words.{is_wide, tally, has_cell, tallied, fitting, with_word, word_wrapped, word_first}
+use Rattle.page_core_base.specs.Messages.{Message}
 
 columns-cons : (c : Cell) (cs : List Cell) → columns (c ∷ cs) ≡ cell_columns c + columns cs
 columns-cons c cs = sum_by-cons cell_columns c cs
@@ -203,3 +204,56 @@ pub passes-law : (s : Sheet) (n : ℕ) (cells : List Cell) (p q : Place) → s.l
     → s.width < s.margin + columns s.cells + n + columns cells → one_word s (apart n cells p q) ≡ word_wrapped s n cells
 passes-law s n [] p q fill some room fit past = absurd (omega (arith, sum_by-nil))
 passes-law s n (c ∷ cs) p q fill some room fit past = word-passes s n c cs p q fill some room fit past
+
+-- ---- Filling leaves the width of rows as it was.
+
+first_width : (s : Sheet) (content : List CellOrNote) → (first_word s content).edge.width ≡ s.width
+unfolding first_word
+first_width s [] = refl
+first_width s (noted m ∷ content) = first_width s content
+first_width s (shown cell place ∷ content) =
+    grind (arith, first_width (row_begun (counted (full_row_ended s s.cells place).edge cell) (cell ∷ [])) content, first_width (row_begun (counted s cell) (cell ∷ [])) content, first_width (with_cell s cell) content)
+
+-- the width of the row that is left
+abbrev HasWidth : ℕ → WordOutcome → Type 0
+HasWidth w (fits notes taken) = taken.width ≡ w
+HasWidth w (too_wide taken) = taken.width ≡ w
+HasWidth w (too_many notes taken place left) = taken.width ≡ w
+
+note_width : (w : ℕ) (m : Message) (o : WordOutcome) → HasWidth w o → HasWidth w (after_note m o)
+note_width w m (fits notes taken) h = h
+note_width w m (too_wide taken) h = h
+note_width w m (too_many notes taken place left) h = h
+
+outcome_width : (s : Sheet) (content : List CellOrNote) → HasWidth s.width (outcome s content)
+unfolding outcome
+outcome_width s [] = refl
+outcome_width s (noted m ∷ content) = note_width s.width m (outcome s content) (outcome_width s content)
+outcome_width s (shown cell place ∷ content) = grind (arith, outcome_width (with_cell s cell) content)
+
+started_width : (s : Sheet) (cells : List Cell) → (if length cells == 0 then s else row_begun s cells).width ≡ s.width
+started_width s cells = elim (cases_Bool (length cells == 0)) [ inl z ↦ rw z refl | inr z ↦ rw z refl ]
+
+word_width : (s : Sheet) (content : List CellOrNote) (w : ℕ) (o : WordOutcome) → s.width ≡ w → HasWidth w o → (by_word s content o).edge.width ≡ w
+word_width s content w (fits notes taken) same h = h
+word_width s content w (too_wide taken) same h = first_width _ content ∙ (started_width _ (drop s.word s.cells) ∙ same)
+word_width s content w (too_many notes taken place left) same h = first_width _ left ∙ h
+
+blanks_width : (content : List CellOrNote) (w : ℕ) (o : WordOutcome) → HasWidth w o → (by_blanks content o).edge.width ≡ w
+blanks_width content w (fits notes taken) h = grind (arith, word_width, outcome_width)
+blanks_width content w (too_wide taken) h = first_width _ content ∙ h
+blanks_width content w (too_many notes taken place left) h = first_width _ content ∙ h
+
+one_width : (s : Sheet) (word : RowWord) → (one_word s word).edge.width ≡ s.width
+one_width s word = grind (arith, first_width, blanks_width, outcome_width)
+
+rest_width : (s : Sheet) (content : List CellOrNote) → (rest_of_word s content).edge.width ≡ s.width
+rest_width s content = grind (arith, first_width, word_width, outcome_width)
+
+filling_width : (s : Sheet) (words : List RowWord) → (filling s words).edge.width ≡ s.width
+unfolding filling
+filling_width s [] = refl
+filling_width s (word ∷ words) = filling_width (one_word s word).edge words ∙ one_width s word
+
+pub going_width : (s : Sheet) (words : RowWords) → (going_on s words).edge.width ≡ s.width
+going_width s words = filling_width (rest_of_word s words.first).edge words.later ∙ rest_width s words.first

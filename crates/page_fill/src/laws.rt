@@ -14,7 +14,7 @@ ghost use Rattle.page_fill.specs.declared.edges.FillEdge.{FillEdge};
 ghost use Rattle.page_fill_cells.specs.Cells.{cells_of};
 ghost use Rattle.page_fill_rows.specs.OpenRows as open_rows;
 ghost use Rattle.page_core_base.specs.laws.Views.{is_printable_ascii};
-ghost use Rattle.page_fill.specs.machine.ByPiece.{laid_items};
+ghost use Rattle.page_fill.specs.machine.Words.{laid_items};
 ghost use Rattle.page_fill.specs.Filled.{one_word};
 ghost use Rattle.page_fill_rows.specs.OpenRows.{Sheet};
 ghost use Rattle.page_fill.specs.Filling as filling;

@@ -9,8 +9,8 @@ ghost use Rattle.page_core_base.specs.declared.pieces.Piece.{Piece};
 ghost use Rattle.page_fill.specs.laws.Views.{UsesSinks, is_sound, AreWords, can_take, fits_after, is_in_row};
 ghost use Rattle.page_fill.specs.declared.edges.FillEdge.{FillEdge};
 ghost use Rattle.page_fill.specs.machine.Fill as fill;
-ghost use Rattle.page_fill.specs.machine.LetteredWords.{LaysUpTo, LaysWords};
-ghost use Rattle.page_fill.specs.machine.PlainWords as plain_words;
+ghost use Rattle.page_fill.specs.machine.Items.{LaysUpTo, LaysWords};
+ghost use Rattle.page_fill.specs.machine.Words as plain_words;
 ghost use Rattle.page_fill_rows.specs.machine.Plain as rows;
 
 use crate::FillEdge;

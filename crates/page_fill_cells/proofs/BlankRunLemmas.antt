@@ -8,11 +8,9 @@ use Rattle.page_core_base.specs.declared.cells.Cell.{Cell}
 use Rattle.page_core_base.specs.declared.cells.Font.{Font}
 use Rattle.page_core_base.specs.Rows.{is_blank_row, row_of}
 use Rattle.page_fill_cells.specs.Cells.{cell_of, cells_of}
-use Rattle.page_fill_cells.specs.machine.BlankRuns.{HasRun, is_blank_byte}
+use Rattle.page_fill_cells.specs.machine.BlankRuns.{HasRun, is_blank_byte, put_at}
 use Rattle.page_core_base.specs.laws.Views.{is_printable_ascii}
-use Rattle.page_fill_cells.specs.machine.Places.{put_at}
-use Rattle.page_fill_cells.proofs.PlaceLemmas.{put-after, put-length}
-use Rattle.page_fill_cells.proofs.BlankLemmas.{blank-append, blanks-blank, part-blank}
+use Rattle.page_fill_cells.proofs.PlaceLemmas.{put-after, put-length, blank-append, blanks-blank, part-blank}
 
 -- ---- bytes that are blanks
 

@@ -1,5 +1,2 @@
-pub mod PrintableLemmas
-pub mod GroupLemmas
-pub mod BlankLemmas
 pub mod BlankRunLemmas
 pub mod PlaceLemmas

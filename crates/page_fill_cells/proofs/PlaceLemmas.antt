@@ -1,21 +1,115 @@
--- Places of a row of which some are put anew, and characters with a font each.
-use Rattle.std.proofs.Common.{◌≡◌, ℕ, zero, suc, ◌+◌, ◌-◌, ◌<◌, ◌≤◌, ◌==◌, Bool, true, ◌&&◌, List, [], ◌∷◌, ◌++◌, length, take, drop, set, get_or, replicate, append_assoc, length-append, length-drop, refl, sym, ap, ◌∙◌, arith}
-use Rattle.std.specs.List.{list_all}
-use Rattle.std.proofs.lemmas.List.{drop-take, drop_more, get_or-append_right, get_or-drop, length-map, length-replicate, length-take-le, map-append, replicate-append-replicate, set_at, take-append-drop, take-append-le, take_at, take_more}
-use Rattle.std.proofs.lemmas.List.Folds.{list_all-append}
+-- Printable characters of ASCII, of a column each.
+use Rattle.std.proofs.Common.{◌≡◌, ℕ, true, List, [], ◌∷◌, length, refl, ◌∙◌, arith, ◌+◌, ◌-◌, ◌≤◌, Bool, false, ◌++◌, take, drop, sym, ap, zero, suc, ◌&&◌, ◌==◌, replicate, inl, inr, ◌<◌, set, get_or, append_assoc, length-append}
+use Rattle.std.proofs.lemmas.Bool.Decides.{nat_tests}
 use Rattle.std.proofs.lemmas.List.Sums.{sum_by-append}
-use Rattle.std.proofs.lemmas.Grind.{common_steps}
-use Rattle.page_core_base.specs.declared.cells.Cell.{Cell}
+use Rattle.unicode_width.specs.Width.{char_width}
 use Rattle.page_core_base.specs.declared.cells.Font.{Font}
+use Rattle.page_fill_cells.specs.Cells.{cell_columns, cell_of, cells_of, columns}
+use Rattle.page_core_base.specs.laws.Views.{is_printable, is_printable_ascii, cells_in, is_ascii}
+use Rattle.std.specs.List.{list_all}
+use Rattle.std.proofs.lemmas.List.{length-drop, take-append-drop, take_all, drop-take, drop_more, get_or-append_right, get_or-drop, length-map, length-replicate, length-take-le, map-append, replicate-append-replicate, set_at, take-append-le, take_at, take_more}
+use Rattle.std.proofs.lemmas.List.Folds.{list_all-append}
+use Rattle.std.proofs.Math.Seq.{take-add}
+use Rattle.std.proofs.lemmas.Bool.{cases_Bool}
+use Rattle.page_core_base.specs.declared.cells.Cell.{Cell}
+use Rattle.page_core_base.specs.Rows.{is_blank, is_blank_row, row_of, trimmed, trimmed_before}
+use Rattle.std.proofs.lemmas.Grind.{common_steps}
 use Rattle.page_core_base.specs.declared.limits.TheConstants.{CELLS}
-use Rattle.page_core_base.proofs.AsciiLemmas.{cells-more}
-use Rattle.page_core_base.specs.laws.Views.{cells_in, is_ascii, is_printable, is_printable_ascii}
-use Rattle.page_core_base.specs.Rows.{is_blank_row, row_of, trimmed}
-use Rattle.page_fill_cells.specs.Cells.{cell_of, cells_of, cell_columns, columns}
-use Rattle.page_fill_cells.specs.machine.BlankRuns.{is_blank_byte}
-use Rattle.page_fill_cells.specs.machine.Places.{put_at}
-use Rattle.page_fill_cells.proofs.BlankLemmas.{before-blank}
-use Rattle.page_fill_cells.proofs.PrintableLemmas.{first-plain, rest-plain, plain-columns}
+use Rattle.page_core_base.proofs.RowLemmas.{cells-more}
+use Rattle.page_fill_cells.specs.machine.BlankRuns.{is_blank_byte, put_at}
+
+-- a plain byte has a column
+pub plain-columns : (font : Font) (b : ℕ) → is_printable b ≡ true → cell_columns (cell_of font b) ≡ 1
+unfolding char_width
+plain-columns font b h = grind (arith, nat_tests)
+
+pub first-plain : (b : ℕ) (bytes : List ℕ) → is_printable_ascii (b ∷ bytes) ≡ true → is_printable b ≡ true
+first-plain b bytes h = grind (arith, h)
+
+pub rest-plain : (b : ℕ) (bytes : List ℕ) → is_printable_ascii (b ∷ bytes) ≡ true → is_printable_ascii bytes ≡ true
+rest-plain b bytes h = grind (arith, h)
+
+-- ---- its columns
+
+pub columns-plain : (font : Font) (bytes : List ℕ) → is_printable_ascii bytes ≡ true → columns (cells_of font bytes) ≡ length bytes
+columns-plain font [] plain = refl
+columns-plain font (b ∷ bytes) plain =
+    let one : cell_columns (cell_of font b) ≡ 1 = plain-columns font b (first-plain b bytes plain) in
+    let others : columns (cells_of font bytes) ≡ length bytes = columns-plain font bytes (rest-plain b bytes plain) in
+    let last : columns (cell_of font b ∷ []) ≡ 1 = omega (arith, one) in
+    sum_by-append cell_columns (cell_of font b ∷ []) (cells_of font bytes) ∙ omega (arith, last, others)
+
+-- ---- Texts of which a group of bytes is read at a time.
+
+-- ---- bytes that pass a test
+
+both : (p : ℕ → Bool) (front back : List ℕ) → list_all p front ≡ true → list_all p (front ++ back) ≡ list_all p back
+both p front back pass = list_all-append p front back ∙ rw pass refl
+
+-- a group that does not pass ends the search
+pub group-fails : (p : ℕ → Bool) (bytes : List ℕ) (at count : ℕ) → list_all p (take at bytes) ≡ true → list_all p (take (at + count - at) (drop at bytes)) ≡ false
+    → list_all p bytes ≡ false
+group-fails p bytes at count before other =
+    let same : at + count - at ≡ count = omega arith in
+    let fails : list_all p (take count (drop at bytes)) ≡ false = rw same at other in
+    let group = drop at bytes in
+    let parts = list_all-append p (take count group) (drop count group) in
+    let here : list_all p (take count group ++ drop count group) ≡ false = parts ∙ rw fails refl in
+    let all = both p (take at bytes) group before in
+    ap (list_all p) (sym (take-append-drop at bytes)) ∙ (all ∙ (ap (list_all p) (sym (take-append-drop count group)) ∙ here))
+
+-- a group that passes comes to those before it
+pub group-more : (p : ℕ → Bool) (bytes : List ℕ) (at count : ℕ) → list_all p (take at bytes) ≡ true → list_all p (take (at + count - at) (drop at bytes)) ≡ true
+    → list_all p (take (at + count) bytes) ≡ true
+group-more p bytes at count before here = grind (arith, take-add, both)
+
+pub passes-front : (p : ℕ → Bool) (front back : List ℕ) → list_all p (front ++ back) ≡ true → list_all p front ≡ true
+passes-front p [] back pass = refl
+passes-front p (b ∷ front) back pass = grind (arith, list_all-append p (b ∷ front) back, pass)
+
+-- the last group, which may overlap those before it
+pub group-last : (p : ℕ → Bool) (bytes : List ℕ) (at last : ℕ) → list_all p (take at bytes) ≡ true → last ≤ at
+    → list_all p (take (length bytes - last) (drop last bytes)) ≡ list_all p bytes
+group-last p bytes at last before le =
+    let len = length-drop last bytes in
+    let group = take_all (length bytes - last) (drop last bytes) (omega (arith, len)) in
+    let sum : at ≡ last + (at - last) = omega (arith, le) in
+    let parts = ap (λ n. take n bytes) sum ∙ take-add last (at - last) bytes in
+    let front = passes-front p (take last bytes) (take (at - last) (drop last bytes)) (ap (list_all p) (sym parts) ∙ before) in
+    ap (list_all p) group ∙ sym (ap (list_all p) (sym (take-append-drop last bytes)) ∙ both p (take last bytes) (drop last bytes) front)
+
+-- ---- Rows of which a part is blank.
+
+pub before-blank : (cell : Cell) (cells : List Cell) → (length (trimmed_before cell cells) == 0) ≡ (is_blank cell && (length cells == 0))
+before-blank cell [] = elim (cases_Bool (is_blank cell)) [ inl t ↦ rw t refl | inr f ↦ rw f refl ]
+before-blank cell (next ∷ cells) = elim (cases_Bool (is_blank cell)) [ inl t ↦ rw t (grind (arith, nat_tests)) | inr f ↦ rw f (grind (arith, nat_tests)) ]
+
+pub blank-append : (front back : List Cell) → is_blank_row (row_of 0 (front ++ back)) ≡ (is_blank_row (row_of 0 front) && is_blank_row (row_of 0 back))
+blank-append [] back = refl
+blank-append (cell ∷ front) back = grind (arith, nat_tests, blank-append front back, before-blank cell (trimmed (front ++ back)), before-blank cell (trimmed front))
+
+-- the first cells of a blank row are blank
+pub part-blank : (cells : List Cell) (n : ℕ) → is_blank_row (row_of 0 cells) ≡ true → is_blank_row (row_of 0 (take n cells)) ≡ true
+part-blank cells n blank =
+    let whole : is_blank_row (row_of 0 (take n cells ++ drop n cells)) ≡ true = ap (λ row. is_blank_row (row_of 0 row)) (take-append-drop n cells) ∙ blank in
+    grind (arith, blank-append)
+
+-- the first cells of a row are blank
+pub rest-blank : (cells : List Cell) (n : ℕ) → is_blank_row (row_of 0 (take n cells)) ≡ true → is_blank_row (row_of 0 cells) ≡ is_blank_row (row_of 0 (drop n cells))
+rest-blank cells n blank =
+    ap (λ row. is_blank_row (row_of 0 row)) (sym (take-append-drop n cells)) ∙ (blank-append (take n cells) (drop n cells) ∙ rw blank refl)
+
+-- they are not
+pub some-stand : (cells : List Cell) (n : ℕ) → is_blank_row (row_of 0 (take n cells)) ≡ false → is_blank_row (row_of 0 cells) ≡ false
+some-stand cells n stands =
+    ap (λ row. is_blank_row (row_of 0 row)) (sym (take-append-drop n cells)) ∙ (blank-append (take n cells) (drop n cells) ∙ rw stands refl)
+
+-- all of its cells are one blank
+pub blanks-blank : (n : ℕ) (cell : Cell) → is_blank cell ≡ true → is_blank_row (row_of 0 (replicate n cell)) ≡ true
+blanks-blank zero cell blank = refl
+blanks-blank (suc n) cell blank = grind (arith, before-blank, blanks-blank n cell blank)
+
+-- ---- Places of a row of which some are put anew, and characters with a font each.
 
 -- ---- places put anew
 

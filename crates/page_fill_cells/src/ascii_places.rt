@@ -5,7 +5,7 @@ ghost use Rattle.page_core_base.specs.laws.Views.{CameRows, cells_in};
 ghost use Rattle.page_core_base.specs.laws.Views as cells_laws;
 ghost use Rattle.page_core_base.specs.Rows.{is_blank_row, row_of};
 ghost use Rattle.page_fill_cells.specs.Cells as cells;
-ghost use Rattle.page_fill_cells.specs.machine.Places.{put_at};
+ghost use Rattle.page_fill_cells.specs.machine.BlankRuns.{put_at};
 
 use crate::blank_runs::is_blank_text;
 use crate::cell_places::{move_to_front, put_cells_in};

@@ -3,7 +3,7 @@
 ghost use Rattle.std.specs.Prelude.{◌≡◌, ◌+◌, ◌-◌, ◌≤◌, length, take, drop, replicate};
 ghost use Rattle.page_core_base.specs.laws.Views.{cells_in};
 ghost use Rattle.page_fill_cells.specs.Cells as cells;
-ghost use Rattle.page_fill_cells.specs.machine.Places.{put_at};
+ghost use Rattle.page_fill_cells.specs.machine.BlankRuns.{put_at};
 
 use page_core_base::{Cell, Font};
 use std::mem;

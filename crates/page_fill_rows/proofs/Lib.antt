@@ -1,9 +1,4 @@
-pub mod SheetLemmas
 pub mod CharacterLemmas
 pub mod PlainLemmas
-pub mod WordStartLemmas
 pub mod GroupLemmas
 pub mod WrapLemmas
-pub mod PutBlankLemmas
-pub mod AnywhereLemmas
-pub mod RowLatchLemmas

@@ -6,7 +6,7 @@ use Rattle.std.proofs.lemmas.List.Folds.{list_all-append}
 use Rattle.std.proofs.lemmas.List.{take-append-drop, length-map, length-replicate}
 use Rattle.std.proofs.lemmas.List.Sums.{sum_by-append}
 use Rattle.unicode_width.specs.Width.{char_width}
-use Rattle.page_core_base.proofs.CharacterLemmas.{characters_of-text}
+use Rattle.page_core_base.proofs.LatchLemmas.{characters_of-text}
 use Rattle.page_core_base.specs.Texts.{characters_of}
 use Rattle.page_core_base.specs.declared.cells.Cell.{Cell}
 use Rattle.page_core_base.specs.declared.cells.Font.{Font}
@@ -20,13 +20,13 @@ use Rattle.page_fill_rows.specs.machine.Sheets.{counted, passes, letter, letters
 use Rattle.page_core_base.specs.declared.limits.TheConstants.{CELLS}
 use Rattle.page_fill_rows.specs.declared.TheConstants.{TAG_COLUMNS}
 use Rattle.page_fill_rows.specs.laws.Views.{character, characters}
-use Rattle.page_fill_rows.specs.machine.Room.{IsSound}
+use Rattle.page_fill_rows.specs.machine.RowPlans.{IsSound}
 use Rattle.page_core_base.specs.declared.page_settings.Output.{Output}
 use Rattle.std.proofs.lemmas.Str.{chars-IsAscii, IsUtf8-from_ascii}
 use Rattle.std.proofs.lemmas.Str.Ascii.{IsAscii-nil}
 use Rattle.std.specs.Str.{IsAscii}
 use Rattle.std.proofs.lemmas.Grind.{common_steps}
-pub use Rattle.page_fill_cells.proofs.PrintableLemmas.{columns-plain, first-plain, plain-columns, rest-plain}
+pub use Rattle.page_fill_cells.proofs.PlaceLemmas.{columns-plain, first-plain, plain-columns, rest-plain}
 use Rattle.page_fill_rows.specs.machine.Plain.{has_room, taken, has_word_room, spaced_by}
 
 -- both parts of a plain text are plain

@@ -1,5 +1,5 @@
 -- A plain word before which the open row ends.
-use Rattle.std.proofs.Common.{◌≡◌, ℕ, suc, ◌+◌, ◌<◌, ◌≤◌, true, false, ◌==◌, List, [], ◌∷◌, ◌++◌, length, min, append_assoc, length-append, refl, ap, ◌∙◌, arith, inl, inr}
+use Rattle.std.proofs.Common.{◌≡◌, ℕ, suc, ◌+◌, ◌<◌, ◌≤◌, true, false, ◌==◌, List, [], ◌∷◌, ◌++◌, length, min, append_assoc, length-append, refl, ap, ◌∙◌, arith, inl, inr, ◌-◌, replicate, length-drop}
 use Rattle.std.proofs.Math.Seq.{take-append_seam, take-length, drop-append-add}
 use Rattle.std.proofs.lemmas.Bool.{cases_Bool}
 use Rattle.std.proofs.lemmas.Bool.Decides.{nat_tests}
@@ -10,11 +10,15 @@ use Rattle.page_core_base.specs.Rows.{Laid, nothing, join, row_of}
 use Rattle.page_core_base.specs.declared.limits.TheConstants.{CELLS}
 use Rattle.page_fill_rows.specs.declared.TheConstants.{TAG_COLUMNS}
 use Rattle.page_fill_rows.specs.OpenRows.{Sheet, over}
-use Rattle.page_fill_cells.specs.Cells.{blank, cell_columns, columns}
+use Rattle.page_fill_cells.specs.Cells.{blank, cell_columns, columns, cell_of}
 use Rattle.page_fill_rows.specs.machine.Sheets.{counted, emptied, given, gives, letter, letters, opens, passes, space, wraps}
-use Rattle.page_fill_rows.specs.machine.Plain.{ends_before, has_room, spaced, wraps_plain}
-use Rattle.page_fill_rows.proofs.PlainLemmas.{are_plain, blank-one, cells-fit, counts-more, first-column, has-more, others-plain}
-use Rattle.page_fill_rows.proofs.SheetLemmas.{letters-one}
+use Rattle.page_fill_rows.specs.machine.Plain.{ends_before, has_room, spaced, wraps_plain, room, taken}
+use Rattle.page_fill_rows.proofs.PlainLemmas.{are_plain, blank-one, cells-fit, counts-more, first-column, has-more, others-plain, letters-fits, sound-more}
+use Rattle.page_fill_rows.proofs.CharacterLemmas.{letters-one, letters-append}
+use Rattle.std.proofs.lemmas.List.{length-replicate, replicate-append-replicate}
+use Rattle.page_core_base.specs.declared.cells.Font.{Font}
+use Rattle.page_fill_rows.specs.machine.RowPlans.{IsSound}
+use Rattle.page_fill_cells.proofs.BlankRunLemmas.{blanks-plain, count-blank, count-cells}
 
 -- the row of some cells was given, and the next one has others
 abbrev wrapped : Sheet → List Cell → List Cell → ℕ → Laid Sheet
@@ -147,3 +151,73 @@ both-cells s cell cells place plain ends =
           let wraps = letters-wrap t s.cells [] cell cells place refl refl refl literal held (omega (arith, len, room)) (omega (arith, sum, wide)) plain in
           rw (space-stays s place some p full, p, wraps) refl
     ]
+
+-- ---- Blanks of a row's last word, those together that the row has room for.
+
+room-part : (s : Sheet) (n : ℕ) → 0 < n → n ≤ room s → has_room s n ≡ true
+room-part s n some within = grind (arith, nat_tests, some, within)
+
+-- a part of them for which it has room
+blanks-fit : (s : Sheet) (n : ℕ) (font : Font) (place : Place) → 0 < n → n ≤ room s
+    → letters s (replicate n (cell_of font 32)) place ≡ nothing (taken s (replicate n (cell_of font 32)))
+blanks-fit s n font place some within =
+    let bytes = replicate {A = ℕ} n 32 in
+    let len = length-replicate {A = ℕ} n 32 in
+    let any : (n == 0) ≡ false = grind (arith, nat_tests, some) in
+    let fits = letters-fits s bytes font place (rw len any) (blanks-plain bytes (count-blank n)) (rw len (room-part s n some within)) in
+    rw (count-cells font n) at fits
+
+pub blanks-parted : (s : Sheet) (n part : ℕ) (font : Font) (place : Place) → 0 < part → part ≤ n → part ≤ room s
+    → letters s (replicate n (cell_of font 32)) place
+    ≡ letters (taken s (replicate part (cell_of font 32))) (replicate (n - part) (cell_of font 32)) place
+blanks-parted s n part font place some less within =
+    let cell = cell_of font 32 in
+    let sum : part + (n - part) ≡ n = omega arith in
+    let parts = replicate-append-replicate part (n - part) cell ∙ ap (λ (k : ℕ). replicate k cell) sum in
+    grind (arith, letters-append, blanks-fit)
+
+-- a sound row with blanks is sound
+pub sound-blanks : {blanks : ℕ} (cells : List Cell) (n : ℕ) (font : Font) (count gap word tag tag-now : ℕ) → IsSound cells count gap word tag blanks
+    → length cells + n ≤ CELLS → tag-now ≤ TAG_COLUMNS → IsSound (cells ++ replicate n (cell_of font 32)) (count + n) gap word tag-now blanks
+sound-blanks cells n font count gap word tag tag-now sound room tagged =
+    let len = length-replicate {A = ℕ} n 32 in
+    let plain = blanks-plain (replicate n 32) (count-blank n) in
+    let more = sound-more cells (replicate n 32) font count gap word tag tag-now sound plain (omega (arith, len, room)) tagged in
+    rw (count-cells font n, len) at more
+
+-- ---- A row that has room for all cells is the same wherever they are in the page: only the message that it has too many names a place.
+
+letter-anywhere : (s : Sheet) (cell : Cell) (p q : Place) → length s.cells < CELLS → letter s cell p ≡ letter s cell q
+unfolding letter
+letter-anywhere s cell p q room = let full : (length s.cells == CELLS) ≡ false = grind (arith, nat_tests, room) in rw full refl
+
+letter-length : (s : Sheet) (cell : Cell) (place : Place) → length s.cells < CELLS → length (letter s cell place).edge.cells ≤ length s.cells + 1
+unfolding letter
+letter-length s cell place room = grind (arith, length-append, length-drop)
+
+pub letters-anywhere : (s : Sheet) (cells : List Cell) (p q : Place) → length s.cells + length cells ≤ CELLS → letters s cells p ≡ letters s cells q
+unfolding letters
+letters-anywhere s [] p q room = refl
+letters-anywhere s (cell ∷ cells) p q room =
+    let some : length s.cells < CELLS = omega (arith, room) in
+    let first = letter s cell q in
+    let len = letter-length s cell q some in
+    grind (arith, letter-anywhere, letters-anywhere first.edge cells p q (omega (arith, len, room)))
+
+pub letters-length : (s : Sheet) (cells : List Cell) (place : Place) → length s.cells + length cells ≤ CELLS
+    → length (letters s cells place).edge.cells ≤ length s.cells + length cells
+unfolding letters
+letters-length s [] place room = omega arith
+letters-length s (cell ∷ cells) place room =
+    let len = letter-length s cell place (omega (arith, room)) in
+    grind (arith, letters-length (letter s cell place).edge cells place (omega (arith, len, room)))
+
+-- ---- a blank
+
+pub space-anywhere : (s : Sheet) (p q : Place) → length s.cells < CELLS → space s p ≡ space s q
+unfolding space
+space-anywhere s p q room = let full : (length s.cells == CELLS) ≡ false = grind (arith, nat_tests, room) in rw full refl
+
+pub space-length : (s : Sheet) (place : Place) → length s.cells < CELLS → length (space s place).edge.cells ≤ length s.cells + 1
+unfolding space
+space-length s place room = grind (arith, length-append)

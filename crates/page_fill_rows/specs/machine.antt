@@ -1,5 +1,4 @@
 -- The code's own steps and fast ways. Trust needs no reading of them.
 pub mod Plain
-pub mod Room
 pub mod Sheets
 pub mod RowPlans

@@ -48,7 +48,7 @@ pub struct OpenRow {
 }
 
 impl Model for OpenRow {
-    ghost use Rattle.page_fill_rows.specs.machine.Room.{IsSound};
+    ghost use Rattle.page_fill_rows.specs.machine.RowPlans.{IsSound};
     ghost use Rattle.page_fill_rows.specs.OpenRows.{Sheet};
 
     ghost Value = { Sheet };

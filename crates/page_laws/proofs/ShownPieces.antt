@@ -20,7 +20,7 @@ use Rattle.page_core_base.specs.declared.pieces.TagForm.TheVariants as forms
 use Rattle.page_core_base.specs.declared.places.Place.{Place}
 use Rattle.page_core_tables.specs.Glyphs.{is_control}
 use Rattle.page_core_tables.specs.Glyphs.{Printing, char_printed, glyph_printed}
-use Rattle.page_core_tables.proofs.ControlLemmas.{char-shown, glyph-printed-shown}
+use Rattle.page_core_tables.proofs.Tables.{char-shown, glyph-printed-shown}
 use Rattle.page_fill_cells.specs.Cells.{blank, columns, cell_of, cells_of}
 use Rattle.page_fill_rows.specs.OpenRows.{Sheet, over, unknown_notes}
 use Rattle.page_fill.specs.Filled.{CellOrNote, shown, noted, RowWord, rest_of_word, filling, row_ended}

@@ -1,8 +1,8 @@
 -- The parts of a line: each remainder is an end of its line, and shorter. Helpers of proofs.
-use Rattle.std.proofs.Common.{◌≡◌, ℕ, zero, suc, ◌+◌, ◌-◌, ◌<◌, ◌≤◌, ◌==◌, nat_lt, Bool, true, false, List, [], ◌∷◌, length, take, drop, Option, Some, None, refl, sym, ap, ◌∙◌, inl, inr, arith, length-drop}
+use Rattle.std.proofs.Common.{◌≡◌, ℕ, zero, suc, ◌+◌, ◌-◌, ◌<◌, ◌≤◌, ◌==◌, nat_lt, Bool, true, false, List, [], ◌∷◌, length, take, drop, Option, Some, None, refl, sym, ap, ◌∙◌, inl, inr, arith, length-drop, ◌*◌}
 use Rattle.std.proofs.lemmas.Bool.{cases_Bool}
 use Rattle.std.proofs.lemmas.Bool.Decides.{nat_tests}
-use Rattle.std.proofs.lemmas.List.{length-take-le, drop-drop}
+use Rattle.std.proofs.lemmas.List.{length-take-le, drop-drop, drop_all, take_all}
 use Rattle.std.proofs.lemmas.List.Sums.{prefix_len-le-length}
 use Rattle.page_core_base.specs.Bytes.{is_white}
 use Rattle.page_roff_syntax.specs.Arguments.{blank_len, after_blanks}
@@ -10,18 +10,27 @@ use Rattle.page_roff_syntax.specs.LineForms.{form_of, name_start, name_len, is_c
 use Rattle.page_roff_syntax.specs.laws.Views.{name_of, begins_control}
 use Rattle.page_roff_syntax.specs.declared.line_forms.LineForm.{LineForm}
 use Rattle.page_roff_syntax.specs.declared.line_forms.LineForm.TheVariants.{Control}
-use Rattle.page_roff_syntax.proofs.ControlLemmas.{uncommented_control}
+use Rattle.page_roff_syntax.proofs.ClosedLemmas.{uncommented_control}
 use Rattle.page_roff_heads.specs.Conditions.{condition_len, begins_pair, remainder_of}
 use Rattle.page_roff_heads.specs.Heads.{conditional_of, guarded_of, end_place, block_end_of, loop_of}
 use Rattle.page_roff_heads.specs.declared.loops.LoopRead.{LoopRead}
 use Rattle.page_roff_heads.specs.declared.texts.Placed.{Placed}
 use Rattle.page_roff_heads.proofs.Within.{rest_within}
-use Rattle.page_roff_blocks.specs.declared.line_parts.LinePart.TheVariants.{Leaf}
+use Rattle.page_roff_blocks.specs.declared.line_parts.LinePart.TheVariants.{Leaf, Guard, Block, Loop, End, Region}
 use Rattle.page_roff_blocks.specs.declared.parts.Columns.{Columns}
 use Rattle.page_roff_blocks.specs.declared.parts.Keyword.{Keyword}
 use Rattle.page_roff_blocks.specs.declared.parts.Keyword.TheVariants as keywords
-use Rattle.page_roff_blocks.specs.Parts.{part_of, with_part, parts, line_parts, rest_text, loop_part_if, end_part, plain_part, raw_rest, keyword_of, keyword_part, form_part, written_part}
-use Rattle.page_roff_blocks.specs.laws.Views.{line_parts_left, IsWithin, columns_of, named_part}
+use Rattle.page_roff_blocks.specs.Parts.{part_of, with_part, parts, line_parts, rest_text, loop_part_if, end_part, plain_part, raw_rest, keyword_of, keyword_part, form_part, written_part, whole_line_part, ends_first, loop_text}
+use Rattle.page_roff_blocks.specs.laws.Views.{line_parts_left, IsWithin, columns_of, named_part, enter, open_loop, skip, leave, leave_from, leave_loop, leave_level, BlockCursor, after_part, guarded_by}
+use Rattle.page_roff_blocks.specs.declared.line_parts.LinePart.{LinePart}
+use Rattle.page_roff_blocks.specs.machine.Steps.{IsEndOf, IsRestIn, rest_at, parts_at, place_after, is_block, opens_block, Meaning, met, step_leaf, guard_with, guard_met, step_guard, block_with, opening_met, block_met, step_block, step_loop, step_end, step_region, step_parts}
+use Rattle.page_roff_blocks.specs.declared.line_parts.Head.{Head}
+use Rattle.page_roff_blocks.specs.declared.line_parts.Opening.{Opening}
+use Rattle.page_roff_blocks.specs.declared.line_parts.Opening.TheVariants as openings
+use Rattle.page_roff_blocks.specs.declared.levels.Way.{Way}
+use Rattle.page_roff_blocks.specs.declared.levels.Way.TheVariants.{Runs}
+use Rattle.page_roff_blocks.specs.Forest.{Levels}
+use Rattle.page_roff_heads.specs.declared.loops.LoopHead.{LoopHead}
 
 -- what is left of a line is shorter than the line
 abbrev pub IsShorter : List ℕ → Option (List ℕ) → Type 0
@@ -260,3 +269,206 @@ line_parts_cons line = grind (arith, all_left, room_left, part_shorter)
 pub one_leaf : (line : List ℕ) → written_part line ≡ plain_part line → block_end_of line ≡ None → line_parts line ≡ Leaf line ∷ []
 unfolding part_of
 one_leaf line h e = grind (arith, line_parts_cons)
+
+-- ---- What is left of a line after a part is the end of that line: helpers of proofs.
+
+-- ---- its place
+
+end_at : (n : ℕ) (line : List ℕ) → drop n line ≡ drop (length line - length (drop n line)) line
+end_at n line = grind (arith, length-drop, nat_lt, drop_all)
+
+end_of : (line : List ℕ) (rest : Option (List ℕ)) → EndsRest line rest → IsEndOf line rest
+unfolding EndsRest
+end_of line None h = tt
+end_of line (Some text) h = grind (arith, length-drop, end_at)
+
+-- what is left of a line after its first part is its end
+pub written_ends : (line : List ℕ) → IsEndOf line (written_part line).rest
+written_ends line = end_of line (written_part line).rest (part_ends line)
+
+pub rest_ends : (line : List ℕ) → IsEndOf line (part_of line).rest
+unfolding part_of
+rest_ends line = written_ends line
+
+-- what is left of the end of a line is the end of the line
+pub end_further : (n : ℕ) (line : List ℕ) (rest : Option (List ℕ)) → n ≤ length line → IsEndOf (drop n line) rest → IsEndOf line rest
+end_further n line None p h = tt
+end_further n line (Some text) p h = grind (arith, length-drop, drop-drop)
+
+-- it is found again at its place
+pub rest_found : (line : List ℕ) (rest : Option (List ℕ)) → IsEndOf line rest → rest_at line (place_after line rest) ≡ rest
+rest_found line None h = refl
+rest_found line (Some text) h = sym (ap Some h.1)
+
+pub place_within : (line : List ℕ) (rest : Option (List ℕ)) → IsRestIn line (place_after line rest)
+place_within line None = tt
+place_within line (Some text) = omega arith
+
+pub to_end : (n : ℕ) (line : List ℕ) → take (length line - n) (drop n line) ≡ drop n line
+to_end n line = take_all (length line - n) (drop n line) (omega (arith, length-drop n line))
+
+-- what is left after the first part of the end of a line, which a slice of the line holds
+pub slice_ends : (n : ℕ) (line : List ℕ) → n ≤ length line → IsEndOf line (part_of (take (length line - n) (drop n line))).rest
+slice_ends n line p = rw (to_end n line) (end_further n line (part_of (drop n line)).rest p (rest_ends (drop n line)))
+
+pub slice_parts : (n : ℕ) (line : List ℕ) → n ≤ length line
+    → let part = part_of (take (length line - n) (drop n line)) in
+    line_parts (drop n line) ≡ part.line_part ∷ parts_at line (record { is_whole = false; is_end = part.is_end; rest = place_after line part.rest })
+slice_parts n line p = grind (arith, rest_found, end_further, rest_ends, to_end, line_parts_cons)
+
+-- what of a part belongs to a loop does not change whether it opens a block
+whole_block : (line_part : LinePart (List ℕ)) → is_block (whole_line_part line_part) ≡ is_block line_part
+whole_block (Leaf text) = refl
+whole_block _ = refl
+
+pub slice_opens : (n : ℕ) (line : List ℕ) → n ≤ length line
+    → opens_block (line_parts (drop n line)) ≡ is_block (written_part (take (length line - n) (drop n line))).line_part
+unfolding part_of
+slice_opens n line p = ap opens_block (slice_parts n line p) ∙ whole_block _
+
+-- ---- How many parts a line has, and how many blocks they skip: helpers of proofs.
+
+ends_room : (is_end : Bool) (more : List (LinePart (List ℕ))) → length (ends_first is_end more) ≤ suc (length more)
+ends_room true more = omega arith
+ends_room false more = omega arith
+
+parts_room : (n : ℕ) (rest : Option (List ℕ)) → length (parts n rest) ≤ 2 * room rest
+unfolding room
+parts_room zero rest = omega arith
+parts_room (suc n) None = omega arith
+parts_room (suc n) (Some line) =
+    let part = part_of line in
+    let h = parts_room n part.rest in
+    let k = room_left line part.rest (part_shorter line) in
+    let e = ends_room part.is_end (parts n part.rest) in
+    omega (arith, h, k, e)
+
+-- a line has at most two parts a byte, and two
+pub line_parts_room : (line : List ℕ) → length (line_parts line) ≤ 2 * length line + 2
+unfolding line_parts room
+line_parts_room line = let h = parts_room (suc (length line)) (Some line) in omega (arith, h)
+
+pub enter_room : (way : Way) (bit : Bool) (l : Levels) → (enter way bit l).skipped ≤ l.skipped + 1
+unfolding enter
+enter_room Runs bit l = omega arith
+enter_room _ bit l = omega arith
+
+pub leave_room : (bit : Bool) (outer : List Bool) (in_loop : Bool) (n : ℕ)
+    → (leave (record { bit = bit; outer = outer; in_loop = in_loop; skipped = n })).skipped ≤ n
+unfolding leave leave_from leave_loop leave_level
+leave_room bit outer true zero = omega arith
+leave_room bit [] false zero = omega arith
+leave_room bit (b ∷ bs) false zero = omega arith
+leave_room bit outer in_loop (suc n) = omega arith
+
+module _ {S : Type 0} (m : Meaning S) where
+  guard_room : (is_met : Bool) (h : Head (List ℕ)) (cursor : BlockCursor) (s : S) → (guard_met m is_met h cursor s).0.levels.skipped ≡ cursor.levels.skipped
+  unfolding guard_met guard_with guarded_by
+  guard_room true h cursor s = refl
+  guard_room false h cursor s = refl
+
+  block_room : (is_met : Bool) (h : Opening (List ℕ)) (cursor : BlockCursor) (s : S) → (block_met m is_met h cursor s).0.levels.skipped ≤ cursor.levels.skipped + 1
+  unfolding block_met opening_met block_with after_part open_loop skip
+  block_room true (openings.Conditional h) cursor s = grind (arith, enter_room)
+  block_room true (openings.Loop h) cursor s = omega arith
+  block_room false h cursor s = omega arith
+
+  -- each part skips one block at most
+  pub step_room : (parts : List (LinePart (List ℕ))) (cursor : BlockCursor) (s : S) → (step_parts m parts cursor s).place.levels.skipped ≤ cursor.levels.skipped + length parts
+  unfolding step_parts step_leaf step_guard step_block step_loop step_end step_region after_part
+  step_room [] cursor s = omega arith
+  step_room (Leaf text ∷ rest) cursor s =
+      let r = step_leaf m text cursor s in
+      let h = step_room rest r.0 r.1 in
+      omega (arith, h)
+  step_room (Guard head ∷ rest) cursor s =
+      let q = met m cursor s in
+      let r = step_guard m head cursor s in
+      let h = step_room rest r.0 r.1 in
+      let k = guard_room q.0 head cursor q.1 in
+      omega (arith, h, k)
+  step_room (Block head ∷ rest) cursor s =
+      let q = met m cursor s in
+      let r = step_block m head cursor s in
+      let h = step_room rest r.0 r.1 in
+      let k = block_room q.0 head cursor q.1 in
+      omega (arith, h, k)
+  step_room (Loop head ∷ rest) cursor s =
+      let r = step_loop m head cursor s in
+      let h = step_room rest r.0 r.1 in
+      omega (arith, h)
+  step_room (End ∷ rest) cursor s =
+      let r = step_end m cursor s in
+      let h = step_room rest r.0 r.1 in
+      let k = leave_room cursor.levels.bit cursor.levels.outer cursor.levels.in_loop cursor.levels.skipped in
+      omega (arith, h, k)
+  step_room (Region head ∷ rest) cursor s = omega arith
+
+-- ---- Lines all of whose leaves are such texts: helpers of proofs.
+
+-- such a text, where there is one
+abbrev pub IsIfSome : (List ℕ → Type 0) → Option (List ℕ) → Type 0
+IsIfSome T None = Unit {0}
+IsIfSome T (Some text) = T text
+
+-- what the head of a loop holds is such text
+abbrev pub IsLoopHead : (List ℕ → Type 0) → LoopHead (List ℕ) → Type 0
+IsLoopHead T head = T head.condition × IsIfSome T head.body
+
+abbrev pub IsOpening : (List ℕ → Type 0) → Opening (List ℕ) → Type 0
+IsOpening T (openings.Conditional head) = Unit {0}
+IsOpening T (openings.Loop head) = IsLoopHead T head
+
+-- the leaves of a line are such texts, and the heads of its loops hold such
+abbrev pub AreLeaves : (List ℕ → Type 0) → List (LinePart (List ℕ)) → Type 0
+AreLeaves T [] = Unit {0}
+AreLeaves T (Leaf text ∷ rest) = T text × AreLeaves T rest
+AreLeaves T (Guard head ∷ rest) = AreLeaves T rest
+AreLeaves T (Block opening ∷ rest) = IsOpening T opening × AreLeaves T rest
+AreLeaves T (Loop head ∷ rest) = IsLoopHead T head × AreLeaves T rest
+AreLeaves T (End ∷ rest) = AreLeaves T rest
+AreLeaves T (Region head ∷ rest) = AreLeaves T rest
+
+-- such lines
+abbrev pub AreSuch : (List ℕ → Type 0) → List (List ℕ) → Type 0
+AreSuch T [] = Unit {0}
+AreSuch T (line ∷ lines) = T line × AreSuch T lines
+
+-- the leaves of such a line are such texts
+abbrev pub HasLeaves : (List ℕ → Type 0) → Type 0
+HasLeaves T = (line : List ℕ) → T line → AreLeaves T (line_parts line)
+
+-- what of such a line belongs to a loop is such a text
+abbrev pub HasLoopTexts : (List ℕ → Type 0) → Type 0
+HasLoopTexts T = (open_blocks : ℕ) (line : List ℕ) → T line → IsIfSome T (loop_text open_blocks line)
+
+-- any text
+abbrev pub IsAny : List ℕ → Type 0
+IsAny text = Unit {0}
+
+any_text : (text : Option (List ℕ)) → IsIfSome IsAny text
+any_text None = tt
+any_text (Some text) = tt
+
+pub any_head : (head : LoopHead (List ℕ)) → IsLoopHead IsAny head
+any_head head = (tt, any_text head.body)
+
+pub any_opening : (opening : Opening (List ℕ)) → IsOpening IsAny opening
+any_opening (openings.Conditional head) = tt
+any_opening (openings.Loop head) = any_head head
+
+pub any_leaves : (parts : List (LinePart (List ℕ))) → AreLeaves IsAny parts
+any_leaves [] = tt
+any_leaves (Leaf text ∷ rest) = (tt, any_leaves rest)
+any_leaves (Guard head ∷ rest) = any_leaves rest
+any_leaves (Block opening ∷ rest) = (any_opening opening, any_leaves rest)
+any_leaves (Loop head ∷ rest) = (any_head head, any_leaves rest)
+any_leaves (End ∷ rest) = any_leaves rest
+any_leaves (Region head ∷ rest) = any_leaves rest
+
+pub any_line : HasLeaves IsAny
+any_line line t = any_leaves (line_parts line)
+
+pub any_lines : (lines : List (List ℕ)) → AreSuch IsAny lines
+any_lines [] = tt
+any_lines (line ∷ lines) = (tt, any_lines lines)

@@ -3,15 +3,13 @@ use Rattle.std.proofs.Common.{◌≡◌, ℕ, zero, suc, ◌+◌, ◌*◌, ◌�
 use Rattle.page_roff_blocks.specs.declared.line_parts.LinePart.{LinePart}
 use Rattle.page_roff_blocks.specs.Parts.{line_parts}
 use Rattle.page_roff_syntax.specs.Regions.{Opened}
-use Rattle.page_roff_blocks.specs.machine.Run.{At}
+use Rattle.page_roff_blocks.specs.machine.Steps.{At}
 use Rattle.page_roff_blocks.specs.laws.Views.{at_line}
-use Rattle.page_roff_blocks.specs.machine.Languages.{run_page}
-use Rattle.page_roff_blocks.specs.machine.Budgets.{Budgeted, Effects, with_rest, charge_by, charge, begin_line, language}
-use Rattle.page_roff_blocks.specs.machine.Machine.{Frame, Running, entered, looped, turned, at_part, between, next}
+use Rattle.page_roff_blocks.specs.machine.Languages.{run_page, Budgeted, Effects, with_rest, charge_by, charge, begin_line, language}
+use Rattle.page_roff_blocks.specs.machine.Machine.{Frame, Running, entered, looped, turned, at_part, between, next, unspent_if, unspent_at, unspent, AreMet, LeadsIn, Leads}
 use Rattle.page_roff_blocks.specs.laws.Spent.{Spends}
-use Rattle.page_roff_blocks.specs.machine.Spending.{unspent_if, unspent_at, unspent, AreMet, LeadsIn, Leads}
-use Rattle.page_roff_blocks.proofs.KeepLemmas.{any_line, any_lines}
-use Rattle.page_roff_blocks.proofs.LanguageTies.{AnyKind, page_tied}
+use Rattle.page_roff_blocks.proofs.LinePartLemmas.{any_line, any_lines}
+use Rattle.page_roff_blocks.proofs.MachineLemmas.{AnyKind, page_tied}
 use Rattle.page_roff_blocks.proofs.StepLemmas.{Pays, Rules, pays_tied, next_rule}
 use Rattle.page_roff_blocks.proofs.LedgerLemmas.{Ready, Fresh, Ledger, ready_base, steps_paid}
 

@@ -1,5 +1,5 @@
 -- What a step leads to, by what it does: helpers of proofs.
-use Rattle.std.proofs.Common.{◌≡◌, ℕ, zero, suc, Bool, true, false, List, [], ◌∷◌, Option, Some, None, refl, subst, arith}
+use Rattle.std.proofs.Common.{◌≡◌, ℕ, zero, suc, Bool, true, false, List, [], ◌∷◌, Option, Some, None, refl, subst, arith, ◌≤◌, length}
 use Rattle.page_roff_heads.specs.declared.loops.LoopHead.{LoopHead}
 use Rattle.page_roff_blocks.specs.declared.line_parts.LinePart.{LinePart}
 use Rattle.page_roff_blocks.specs.declared.line_parts.LinePart.TheVariants.{Leaf, Guard, Block, Loop, End, Region}
@@ -8,13 +8,13 @@ use Rattle.page_roff_blocks.specs.declared.levels.Ended.TheVariants as endings
 use Rattle.page_roff_syntax.specs.Regions.{Opened, opened}
 use Rattle.page_roff_blocks.specs.Parts.{line_parts}
 use Rattle.page_roff_blocks.specs.laws.Views.{BlockCursor, at_line, after_part, leave, what_ends}
-use Rattle.page_roff_blocks.specs.machine.Run.{Meaning, At, keep_if}
-use Rattle.page_roff_blocks.specs.machine.Steps.{met, guard_met, step_guard, block_met, step_block, step_region, begin_line}
-use Rattle.page_roff_blocks.specs.machine.Languages.{Kind, body, Done, gives, calls, repeats, state_of, Language, is_some, finish_at, meaning_at}
-use Rattle.page_roff_blocks.specs.machine.Machine.{Turning, Frame, Running, entered, looped, turned, at_part, between, depth, finish_if, leaf_next, leaf_if, loop_next, loop_if, end_next, part_next, region_next, line_next, turn_if, turn_next, body_next, source_next, next_in, next}
-use Rattle.page_roff_blocks.proofs.KeepLemmas.{IsAny, any_head, any_opening}
+use Rattle.page_roff_blocks.specs.machine.Steps.{Meaning, At, keep_if, met, guard_met, step_guard, block_met, step_block, step_region, begin_line}
+use Rattle.page_roff_blocks.specs.machine.Languages.{Kind, body, Done, gives, calls, repeats, state_of, Language, is_some, finish_at, meaning_at, page, inner, Budgeted, Effects, language}
+use Rattle.page_roff_blocks.specs.machine.Machine.{Turning, Frame, Running, entered, looped, turned, at_part, between, depth, finish_if, leaf_next, leaf_if, loop_next, loop_if, end_next, part_next, region_next, line_next, turn_if, turn_next, body_next, source_next, next_in, next, IsOnLine, AreOnLine, HasMeasure, IsFirst}
+use Rattle.page_roff_blocks.proofs.LinePartLemmas.{IsAny, any_head, any_opening}
 use Rattle.page_roff_blocks.proofs.TieLemmas.{Alike, Ties, TiesParts, TiesLine, one_tie, of_one, met_tied, ready_tied, guard_tied, block_tied, keep_tied, begin_tied}
-use Rattle.page_roff_blocks.proofs.LanguageTies.{AnyKind, TiesLanguages, kept_done}
+use Rattle.page_roff_blocks.proofs.MachineLemmas.{AnyKind, TiesLanguages, kept_done}
+use Rattle.page_core_base.specs.declared.limits.TheConstants.{CALLS}
 
 abbrev pub PaidDone : {S : Type 0} → (S → Type 0) → (S → Type 0) → Done S → Type 0
 PaidDone B G (gives s) = B s
@@ -246,3 +246,63 @@ any_pays l = record {
   turn = λ kind condition s h. (λ e. tt, tt);
   finish = λ region in_loop s h. tt;
 }
+
+-- ---- Lines of the page are run by themselves: helpers of proofs.
+
+-- a body is no page
+inner_body : (kind : Kind) → inner kind ≡ page → ⊥
+unfolding inner
+inner_body page h = absurd (cc)
+inner_body (body args) h = absurd (cc)
+
+on_rules : {R : Type 0} (r : Running (Budgeted R)) → HasMeasure r → Rules AnyKind Any Any Any r HasMeasure
+unfolding HasMeasure IsOnLine AreOnLine at_part between entered looped turned
+on_rules r h = record {
+  base = tt;
+  fresh = λ part more none is e. tt;
+  kind = λ line more is. tt;
+  past = λ part more none is c b s p. h;
+  call = λ part more none is c b run lines args s p. (λ x. absurd (cc x), h);
+  repeat = λ part more none is c b run condition lines s p. (λ x. absurd (inner_body r.top.kind x), h);
+  opens = λ part more none is o s p. h;
+  line = λ line more none is s p. (λ x. let e = (h.0 x).0 in absurd (cc), h.1);
+  inside = λ line more is region s p. (λ x. let e = (h.0 x).0 in absurd (cc), h.1);
+  over = λ g gs is s p. rw is at h.1;
+  again = λ g gs is t left e i s p. (λ x. let n = (h.0 x).1 in absurd (cc), rw is at h.1);
+}
+
+pub next_on : {R : Type 0} (e : Effects R) (r q : Running (Budgeted R)) → HasMeasure r → next (language e) r ≡ Some q → HasMeasure q
+next_on e r q h x = next_rule AnyKind Any Any Any Any (language e) (any_pays (language e)) r HasMeasure (on_rules r h) q x
+
+-- after the first step of a line
+first_rules : {R : Type 0} (r : Running (Budgeted R)) → IsFirst r → Rules AnyKind Any Any Any r HasMeasure
+unfolding IsFirst HasMeasure IsOnLine AreOnLine between
+first_rules r h = grind arith
+
+pub first_falls : {R : Type 0} (e : Effects R) (r q : Running (Budgeted R)) → IsFirst r → next (language e) r ≡ Some q → HasMeasure q
+first_falls e r q h x = next_rule AnyKind Any Any Any Any (language e) (any_pays (language e)) r HasMeasure (first_rules r h) q x
+
+-- ---- How many macros and loops run: helpers of proofs.
+
+room_for_one : (d : ℕ) (under : List Frame) → depth under ≡ d → is_some d ≡ true → suc (length under) ≤ CALLS
+unfolding depth is_some
+room_for_one zero under e h = absurd (cc)
+room_for_one (suc d) under e h = omega arith
+
+pub next_fits : {S : Type 0} (l : Language S) (r q : Running S) → length r.under ≤ CALLS → next l r ≡ Some q → length q.under ≤ CALLS
+next_fits {S} l r q k x =
+    let rules : Rules AnyKind Any Any Any r (λ (q : Running S). length q.under ≤ CALLS) =
+    record {
+      base = tt;
+      fresh = λ part more none is e. tt;
+      kind = λ line more is. tt;
+      past = λ part more none is c b s h. k;
+      call = λ part more none is c b run lines args s h. room_for_one (depth r.under) r.under refl run;
+      repeat = λ part more none is c b run condition lines s h. room_for_one (depth r.under) r.under refl run;
+      opens = λ part more none is o s h. k;
+      line = λ line more none is s h. k;
+      inside = λ line more is region s h. k;
+      over = λ g gs is s h. let j = rw is at k in omega (arith, j);
+      again = λ g gs is t left e i s h. rw is at k;
+    } in
+    next_rule AnyKind Any Any Any Any l (any_pays l) r (λ (q : Running S). length q.under ≤ CALLS) rules q x

@@ -1,7 +1,7 @@
 //! The budget of re-read lines of a source line (mandoc(1), "input stack limit exceeded, infinite loop?").
 
 ghost use Rattle.std.specs.Prelude.{◌≡◌, ◌+◌, ◌≤◌, ◌^◌};
-ghost use Rattle.page_roff_blocks.specs.machine.Counting.{first_budget, budget_at, renewed, begun, charged, exhausts};
+ghost use Rattle.page_roff_blocks.specs.machine.Languages.{first_budget, budget_at, renewed, begun, charged, exhausts};
 
 use page_core_base::REREAD;
 use std::marker::Model;
@@ -15,7 +15,7 @@ pub struct Budget {
 }
 
 impl Model for Budget {
-    ghost use Rattle.page_roff_blocks.specs.machine.Counting.{Budget, IsCounted};
+    ghost use Rattle.page_roff_blocks.specs.machine.Languages.{Budget, IsCounted};
 
     ghost Value = { Budget };
 

@@ -1,15 +1,11 @@
 //! Laws of macros and loops that run.
 
 ghost use Rattle.std.specs.Prelude.{◌≡◌, ◌≤◌, ℕ, suc, ◌+◌, ◌*◌, List, [], ◌∷◌, length, Option, Some, None};
-ghost use Rattle.page_roff_blocks.specs.machine.Run.{At};
+ghost use Rattle.page_roff_blocks.specs.machine.Steps.{At};
 ghost use Rattle.page_core_base.specs.declared.limits.TheConstants.{CALLS, REREAD};
-ghost use Rattle.page_roff_blocks.specs.machine.Budgets.{Budgeted, Effects, language};
-ghost use Rattle.page_roff_blocks.specs.machine.Fronts.{over, over_running, IsFront};
-ghost use Rattle.page_roff_blocks.specs.machine.Languages.{body, TURNS, Language, run_body, turns, meaning_at, run_page};
-ghost use Rattle.page_roff_blocks.specs.machine.Measures.{measure, HasMeasure, HasBodyWithin, IsFirst};
-ghost use Rattle.page_roff_blocks.specs.machine.Spending.{unspent, AreMet, Leads};
+ghost use Rattle.page_roff_blocks.specs.machine.Languages.{Budgeted, Effects, language, body, TURNS, Language, run_body, turns, meaning_at, run_page};
+ghost use Rattle.page_roff_blocks.specs.machine.Machine.{over, over_running, IsFront, measure, HasMeasure, HasBodyWithin, IsFirst, unspent, AreMet, Leads, Running, at_page, rest_of, next, stands_at};
 ghost use Rattle.page_roff_blocks.specs.laws.Spent.{Spends};
-ghost use Rattle.page_roff_blocks.specs.machine.Machine.{Running, at_page, rest_of, next, stands_at};
 
 /// What is still to come of running sources is what comes of them after one step more, from a line of the page down to its end.
 pub fn machine_law<S>()

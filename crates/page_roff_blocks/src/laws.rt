@@ -4,8 +4,7 @@ ghost use Rattle.std.specs.Prelude.{◌≡◌, ◌≤◌, ℕ, ◌+◌, ◌*◌,
 ghost use Rattle.page_roff_blocks.specs.Parts.{with_part, part_of, line_parts, before_end, blocks_after, left_by, left_of, written_part};
 ghost use Rattle.page_roff_blocks.specs.laws.Views.{line_parts_left, BlockCursor, left_rest};
 ghost use Rattle.page_roff_blocks.specs.declared.line_parts.LinePart.{LinePart};
-ghost use Rattle.page_roff_blocks.specs.machine.Run.{Meaning};
-ghost use Rattle.page_roff_blocks.specs.machine.Steps.{step_parts};
+ghost use Rattle.page_roff_blocks.specs.machine.Steps.{Meaning, step_parts};
 
 /// The parts of a line are its first one, and those of what is left of the line.
 pub fn line_parts_law()

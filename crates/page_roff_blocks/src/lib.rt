@@ -9,9 +9,9 @@
 //! `Standing`: the parts of a raw line, what of it belongs to a loop, and the open and skipped blocks, the open loop and the open region of a
 //! source. `line_parts_law`, `loop_law`, `room_law`: the parts of a line, and of what is left of it. `machine_law`, `budget_law`, `spending_law`,
 //! `each_line_law`, `calls_law`, `measure_law`, `turns_law`, `front_law`: how lines run, with calls of macros and with loops
-//! (`specs/machine/Languages.antt`, `Budgets.antt`), over any meaning of their parts: a stack of sources gives the same, it ends, and the lines
+//! (`specs/machine/Languages.antt`), over any meaning of their parts: a stack of sources gives the same, it ends, and the lines
 //! taken and the macros and loops that run stay within their budgets. `Budget`: the re-read lines of a source line are
-//! counted by `specs/machine/Counting.antt`.
+//! counted there, too.
 #![tactic(auto)]
 
 mod block_cursors;

@@ -5,7 +5,7 @@ ghost use Rattle.page_core_base.specs.declared.limits.TheConstants.{LINE};
 ghost use Rattle.page_roff_blocks.specs.laws.Views.{line_part_view, FitsLinePart, ReadsNext};
 ghost use Rattle.page_roff_blocks.specs.Parts.{line_parts};
 ghost use Rattle.page_roff_blocks.specs.declared.line_parts.LinePart.TheVariants.{Leaf};
-ghost use Rattle.page_roff_blocks.specs.machine.LinePlaces.{parts_at, line_end, is_at_end, is_block, opens_block, place_after, IsPlaceIn, IsEndOf};
+ghost use Rattle.page_roff_blocks.specs.machine.Steps.{parts_at, line_end, is_at_end, is_block, opens_block, place_after, IsPlaceIn, IsEndOf};
 ghost use Rattle.page_roff_syntax.specs.laws.Views.{text_view};
 
 use crate::line_parts::LinePart;

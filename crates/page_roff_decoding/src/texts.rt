@@ -3,7 +3,7 @@ ghost use Rattle.std.specs.Prelude.{◌≡◌, ◌+◌, ◌≤◌, length, drop,
 ghost use Rattle.std.specs.List.{prefix_len, list_all};
 ghost use Rattle.std.specs.Simd.Lanes.{mask_l};
 ghost use Rattle.page_roff_decoding.specs.Decoding.{is_printable};
-ghost use Rattle.page_roff_decoding.specs.machine.Scan.{is_text as spec_is_text, is_stop};
+ghost use Rattle.page_roff_decoding.specs.machine.Fronts.{is_text as spec_is_text, is_stop};
 
 use crate::characters::is_printable;
 use std::simd::prelude::*;

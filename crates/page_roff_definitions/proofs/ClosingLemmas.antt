@@ -1,10 +1,14 @@
 -- Arguments of a text without a quote: helpers of proofs.
-use Rattle.std.proofs.Common.{◌≡◌, ℕ, zero, suc, ◌+◌, ◌<◌, ◌==◌, Bool, true, false, is_none, List, [], ◌∷◌, length, get_or, drop, if◌then◌else◌, Option, None, Some, refl, arith, length-drop}
+use Rattle.std.proofs.Common.{◌≡◌, ℕ, zero, suc, ◌+◌, ◌<◌, ◌==◌, Bool, true, false, is_none, List, [], ◌∷◌, length, get_or, drop, if◌then◌else◌, Option, None, Some, refl, arith, length-drop, ◌≤◌, is_some, ap}
 use Rattle.std.proofs.lemmas.List.{get_or-drop}
 use Rattle.memchr.specs.Find.{IsFirstByte, is_byte}
-use Rattle.page_roff_syntax.specs.Arguments.{is_blank, first_argument, quoted_argument, bare_argument, argument_len, first_arguments, arguments}
+use Rattle.page_roff_syntax.specs.Arguments.{is_blank, first_argument, quoted_argument, bare_argument, argument_len, first_arguments, arguments, is_quoted, argument_value}
 use Rattle.page_roff_syntax.specs.declared.quotes.Argument.{Argument}
 use Rattle.page_roff_definitions.specs.Definitions.{closing_notes, closings_notes}
+use Rattle.std.specs.Prelude.{◌++◌, IfSome}
+use Rattle.page_core_base.specs.Messages.{Message}
+use Rattle.page_core_base.specs.declared.limits.TheConstants.{BODY}
+use Rattle.page_core_base.specs.Texts.{unpaired}
 
 abbrev HasNone : List ℕ → Type 0
 HasNone text = (i : ℕ) → i < length text → (get_or text i 0 == 34) ≡ false
@@ -44,3 +48,38 @@ unfolding arguments
 unquoted_closings line column text None e h =
     no_closings (length text) line column text (λ i l. not_true (get_or text i 0 == 34) (h i (omega arith) l))
 unquoted_closings line column text (Some k) e h = let no : ⊥ = cc in absurd no
+
+-- ---- Messages that come to a latch in a loop: helpers of proofs.
+
+-- of all, what is still to come
+abbrev pub CameUpTo : {P S : Type 0} → (P → S → List Message → Type 0) → S → List Message → List Message → S → Type 0
+CameUpTo {P} left s all next t = (plan : P) (more : List Message) → left plan s (all ++ more) → left plan t (next ++ more)
+
+-- ---- How long the body of an open region is: helpers of proofs.
+
+pub body_fits : (is_open : Bool) (text : List ℕ) → length text ≤ BODY → IfSome (if is_open then Some text else None) (λ body. length body ≤ BODY)
+body_fits true text h = h
+body_fits false text h = tt
+
+-- ---- The arguments of a call, packed: helpers of proofs.
+
+-- a text without a quote has no pair of them
+unpaired_plain : (text : List ℕ) → ((k : ℕ) → k < length text → ¬ ((get_or text k 0 == 34) ≡ true)) → unpaired text ≡ text
+unpaired_plain [] f = refl
+unpaired_plain (b ∷ []) f = refl
+unpaired_plain (b ∷ n ∷ bs) f =
+    let t : (b == 34) ≡ false = other (b == 34) (f 0 (omega arith)) in
+    rw t (ap (λ (l : List ℕ). b ∷ l) (unpaired_plain (n ∷ bs) (λ k l. f (suc k) (omega arith))))
+  where
+    other : (c : Bool) → ¬ (c ≡ true) → c ≡ false
+    other true h = absurd (h refl)
+    other false h = refl
+
+-- an argument in which no quote was found
+pub plain_value : (a : Argument (List ℕ)) (r : Option ℕ) → IsFirstByte (is_byte 34) a.text r → is_some r ≡ false → argument_value a ≡ a.text
+plain_value a (Some n) h e = let no : ⊥ = cc in absurd no
+plain_value a None h e = either (is_quoted a.quoting)
+  where
+    either : (quoted : Bool) → (if quoted then unpaired a.text else a.text) ≡ a.text
+    either true = unpaired_plain a.text (λ k l. h k (omega arith) l)
+    either false = refl

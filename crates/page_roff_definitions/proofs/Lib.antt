@@ -1,4 +1,1 @@
 pub mod ClosingLemmas
-pub mod Coming
-pub mod CapLemmas
-pub mod PackLemmas

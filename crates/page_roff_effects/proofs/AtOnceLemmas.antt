@@ -28,8 +28,7 @@ use Rattle.page_roff_effects.specs.machine.Acting.{Acting, measured, plain_form,
 use Rattle.page_core_base.specs.laws.Views.{IsFreeLine}
 use Rattle.page_roff_effects.specs.Lines.{called_body, command_of, command_or, request_command, ControlLine, calls, control_outcome, command_outcome, does, leaf_outcome, rest_column, rest_of, text_outcome, within_limit}
 use Rattle.page_roff_effects.specs.States.{Memory, PartOutcome, TextSetting, call_product, gives_line, surroundings}
-use Rattle.page_roff_effects.proofs.FreeLemmas.{free_itself, uncommented, unended}
-use Rattle.page_roff_effects.proofs.PlainLemmas.{counted_none}
+use Rattle.page_roff_effects.proofs.FreeLemmas.{free_itself, uncommented, unended, counted_none}
 
 -- ---- lines that are no control lines
 

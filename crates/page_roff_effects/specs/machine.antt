@@ -1,4 +1,2 @@
 -- The code's own steps and fast ways. Trust needs no reading of them.
-pub mod Effects
 pub mod Acting
-pub mod FreeLines

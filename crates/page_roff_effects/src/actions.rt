@@ -9,9 +9,8 @@ ghost use Rattle.page_roff_values.specs.machine.Views.{surroundings_of};
 ghost use Rattle.page_roff_values.specs.Values as laying;
 ghost use Rattle.page_roff_effects.specs.machine.Acting as acting;
 ghost use Rattle.page_roff_effects.specs.laws.Views.{MemoryFits};
-ghost use Rattle.page_roff_effects.specs.machine.Acting.{measured, Does, Tests, Expands, ExpandsOrKeeps};
+ghost use Rattle.page_roff_effects.specs.machine.Acting.{measured, Does, Tests, Expands, ExpandsOrKeeps, turn_answer};
 ghost use Rattle.page_roff_effects.specs.States.{answer_of, budget_outcome, block_outcome, end_of_block_outcome};
-ghost use Rattle.page_roff_effects.specs.machine.Effects.{turn_answer};
 ghost use Rattle.page_core_base.specs.Messages.{message_about};
 
 use crate::memories::Remembered;

@@ -3,7 +3,7 @@
 ghost use Rattle.std.specs.Prelude.{◌≡◌, ◌+◌, ◌<◌, length, map, false, IsTrue};
 ghost use Rattle.std.specs.Simd.Lanes.{mask_l};
 ghost use Rattle.page_core_base.specs.laws.Views.{is_backslash, is_key, IsFreeLine};
-ghost use Rattle.page_roff_effects.specs.machine.FreeLines.{IsFreeFrom};
+ghost use Rattle.page_roff_effects.specs.machine.Acting.{IsFreeFrom};
 
 use std::simd::prelude::*;
 

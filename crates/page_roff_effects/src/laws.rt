@@ -2,10 +2,10 @@
 
 ghost use Rattle.std.specs.Prelude.{ℕ, List};
 ghost use Rattle.page_core_base.specs.declared.limits.TheConstants.{EXPAND};
-ghost use Rattle.page_roff_blocks.specs.machine.Budgets.{language};
-ghost use Rattle.page_roff_blocks.specs.machine.Fronts.{IsFront};
+ghost use Rattle.page_roff_blocks.specs.machine.Languages.{language};
+ghost use Rattle.page_roff_blocks.specs.machine.Machine.{IsFront};
 ghost use Rattle.page_roff_blocks.specs.laws.Spent.{Spends};
-ghost use Rattle.page_roff_effects.specs.machine.Effects.{effects, expansions_of, in_front};
+ghost use Rattle.page_roff_effects.specs.machine.Acting.{effects, expansions_of, in_front};
 ghost use Rattle.page_roff_effects.specs.States.{Given};
 
 /// A line that is taken makes no more than `EXPAND` interpolations.

@@ -1,3 +1,2 @@
 pub mod Ahead
-pub mod Reading
 pub mod Within

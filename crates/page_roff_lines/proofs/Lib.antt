@@ -1,17 +1,6 @@
-pub mod HeldLemmas
-pub mod OpenLaws
 pub mod ReadLemmas
 pub mod RunLemmas
-pub mod Spots
-pub mod SpotReadings
 pub mod Agreement
-pub mod MarkLemmas
 pub mod PointLemmas
-pub mod PairLemmas
-pub mod PlainLines
 pub mod LineAgreement
-pub mod HeldLaws
 pub mod WholeLemmas
-pub mod VectorLemmas
-pub mod FreeLines
-pub mod LineLemmas

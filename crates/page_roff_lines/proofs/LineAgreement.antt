@@ -1,8 +1,8 @@
 -- The decoded lines of a page are those that its bytes give one by one.
-use Rattle.std.proofs.Common.{◌≡◌, ℕ, Bool, true, false, cond, List, [], ◌∷◌, ◌++◌, map, take, refl, sym, ap, ◌∙◌, append_assoc, arith}
-use Rattle.std.specs.Prelude.{◌==◌, nat_lt, nat_eq, if◌then◌else◌}
+use Rattle.std.proofs.Common.{◌≡◌, ℕ, Bool, true, false, cond, List, [], ◌∷◌, ◌++◌, map, take, refl, sym, ap, ◌∙◌, append_assoc, arith, zero, suc, ◌+◌, ◌-◌, ◌*◌, ◌/◌, ◌^◌, ◌<◌, ◌≤◌, length, drop, slice_index, get_or, inl, inr, subst}
+use Rattle.std.specs.Prelude.{◌==◌, nat_lt, nat_eq, if◌then◌else◌, not, ◌&&◌}
 use lib.Pointwise.{pointwise}
-use Rattle.std.proofs.lemmas.Bool.Decides.{eqb_tells}
+use Rattle.std.proofs.lemmas.Bool.Decides.{eqb_tells, nat_tests}
 use Rattle.page_core_base.specs.Bytes.{ascii}
 use Rattle.page_core_base.specs.declared.page_settings.Encoding.{Encoding}
 use Rattle.page_core_base.specs.declared.page_settings.Encoding.TheVariants.{Auto, Ascii, Latin1, Utf8}
@@ -13,12 +13,22 @@ use Rattle.page_roff_lines.specs.declared.Mark.{Mark}
 use Rattle.page_roff_lines.specs.declared.Mark.TheVariants.{Unread, First, Second, Absent, Present}
 use Rattle.page_roff_lines.specs.laws.Views.{newline}
 use Rattle.page_roff_lines.specs.Lines.{KeptLine, has_mark, Line, decode_line, or_else, choice_of_lines, lines}
-use Rattle.page_roff_lines.specs.machine.Open.{Open, first_open, restart, close, count_byte, put, put_plain, put_pair, put_in, put_byte, ends_mark, mark_after, is_marked, next_open, end_open, end_in, kept_of, if_whole, whole_lines, open_after, lines_from as raw_lines_from}
-use Rattle.page_roff_lines.specs.machine.Run.{is_settled}
+use Rattle.page_roff_lines.specs.machine.Open.{Open, first_open, restart, close, count_byte, put, put_plain, put_pair, put_in, put_byte, ends_mark, mark_after, is_marked, next_open, end_open, end_in, kept_of, if_whole, whole_lines, open_after, lines_from as raw_lines_from, is_settled, BeginsPair, IsFine, ends_run, IsFreeTo, is_quiet}
 use Rattle.page_roff_lines.specs.laws.Cutting.{Point, first_point, encoding_after, point_at, next_point, end_point, line_at, lines_within, point_after, lines_from, IsAfter, IsFed}
-use Rattle.page_roff_lines.proofs.OpenLaws.{next_open-mark}
-use Rattle.page_roff_lines.proofs.PointLemmas.{open_point, point_after-append, lines_within-append}
-use Rattle.page_roff_lines.proofs.MarkLemmas.{kept_lines-one_by_one}
+use Rattle.page_roff_lines.proofs.PointLemmas.{next_open-mark, open_point, point_after-append, lines_within-append}
+use Rattle.page_roff_lines.proofs.Agreement.{kept_lines-one_by_one}
+use Rattle.std.specs.List.{prefix_len}
+use Rattle.std.proofs.Math.Seq.{take-add}
+use Rattle.std.proofs.lemmas.List.{drop-drop, drop-map, drop-take, get_or-drop, get_or-take, length-take-le, take_all}
+use Rattle.std.proofs.lemmas.List.Sums.{prefix_len-le-length, prefix_len_passes}
+use native.Mathlib.Nat.{pow-suc, mul_comm, zero-div, div-one, div-div-eq-div-mul}
+use lib.Lanes.{mask_l}
+use lib.Count.{count_trailing_zeros}
+use Rattle.page_roff_decoding.specs.machine.Fronts.{is_text, is_stop}
+use Rattle.page_roff_decoding.proofs.ScanLemmas.{rest_of, all-append, not-not, run_bound, run_stops, run_through, text-printable, and_true}
+use Rattle.page_roff_lines.proofs.ReadLemmas.{pair-printable, run-front, text-more, text-pair}
+use Rattle.std.proofs.lemmas.Bool.{cases_lt}
+use Rattle.page_core_base.specs.laws.Views.{IsFreeLine, is_backslash}
 
 -- lines decoded one after the other, each of which may decide the encoding of the next
 abbrev decode_all : Encoding → Bool → List KeptLine → List Line
@@ -246,3 +256,143 @@ fed-of_page p q more given after came set bytes at =
 pub ended-of_page : (p : Point) (given : List Line) → line_at (end_point p) ≡ given
     → (set : Encoding) (bytes : List ℕ) → IsAfter p set bytes → lines set bytes ≡ lines_within (first_point set) bytes ++ given
 ended-of_page p given came set bytes at = grind (arith, lines-one_by_one)
+
+-- ---- Text and pairs that the mask of a vector's stops finds are read at once, and printable.
+
+-- text ends no run
+pub text-run : (b : ℕ) → is_text b ≡ true → ends_run Plain b ≡ false
+text-run b h = grind (arith, nat_tests)
+
+-- ---- masks
+
+half : (b : Bool) (n : ℕ) → (cond b 1 0 + 2 * n) / 2 ≡ n
+half true n = omega arith
+half false n = omega arith
+
+-- the lanes after the first ones
+pub mask-after : (bs : List Bool) (k : ℕ) → mask_l bs / 2 ^ k ≡ mask_l (drop k bs)
+mask-after bs zero = div-one (mask_l bs)
+mask-after [] (suc k) = zero-div (2 ^ suc k)
+mask-after (b ∷ bs) (suc k) =
+    ap (λ n. mask_l (b ∷ bs) / n) (pow-suc 2 k ∙ mul_comm (2 ^ k) 2) ∙ sym (div-div-eq-div-mul (mask_l (b ∷ bs)) 2 (2 ^ k))
+    ∙ ap (λ n. n / 2 ^ k) (half b (mask_l bs)) ∙ mask-after bs k
+
+-- ---- fine bytes
+
+-- to a place of a chunk, and those after it
+pub fine-more : (xs : List ℕ) (i n : ℕ) → IsFine (take i xs) → IsFine (take n (drop i xs)) → IsFine (take (i + n) xs)
+fine-more xs i n above below = record {
+  text = text-more xs i n above.text below.text;
+  printable = rw (take-add i n xs) (all-append is_printable (take i xs) (take n (drop i xs)) above.printable below.printable);
+}
+
+-- text
+pub fine-text : (ys : List ℕ) (n : ℕ) → n ≤ prefix_len is_text ys → IsFine (take n ys)
+fine-text ys n most = record {
+  text = run-front ys n (omega (arith, most, prefix_len-le-length is_text ys)) (λ k below. text-run (slice_index ys k) (prefix_len_passes is_text ys k 0 (omega arith)));
+  printable = text-printable ys n most;
+}
+
+-- a pair
+pub fine-pair : (xs : List ℕ) (i : ℕ) → BeginsPair (take (length xs - i) (drop i xs)) → IsFine (take 2 (drop i xs))
+fine-pair xs i pair =
+    let pair_at = rw (rest_of xs i) at pair in
+    record { text = text-pair (drop i xs) pair_at; printable = pair-printable (drop i xs) pair_at }
+
+-- ---- a vector
+
+-- the stops of so many bytes from a place on
+abbrev pub stops_from : List ℕ → ℕ → ℕ → ℕ
+stops_from xs i n = mask_l (map is_stop (take n (drop i xs)))
+
+-- the first stop is a place of the bytes
+pub stop-within : (xs : List ℕ) (i n : ℕ) → i + n ≤ length xs → n ≤ 64 → 0 < stops_from xs i n → i + count_trailing_zeros 64 (stops_from xs i n) ≤ length xs
+stop-within xs i n room short some =
+    let len = run_stops is_stop is_text (λ x. not-not (is_text x)) xs i n room short some in
+    omega (arith, len, run_bound is_text xs i (omega arith))
+
+-- up to the first stop
+pub fine-stop : (xs : List ℕ) (i n : ℕ) → i + n ≤ length xs → n ≤ 64 → 0 < stops_from xs i n → IsFine (take i xs)
+    → IsFine (take (i + count_trailing_zeros 64 (stops_from xs i n)) xs)
+fine-stop xs i n room short some above =
+    let len = run_stops is_stop is_text (λ x. not-not (is_text x)) xs i n room short some in
+    fine-more xs i (count_trailing_zeros 64 (stops_from xs i n)) above (fine-text (drop i xs) (count_trailing_zeros 64 (stops_from xs i n)) (omega (arith, len)))
+
+-- where there is none, all of them
+pub fine-through : (xs : List ℕ) (i n : ℕ) → i + n ≤ length xs → stops_from xs i n ≡ 0 → IsFine (take i xs) → IsFine (take (i + n) xs)
+fine-through xs i n room none above =
+    let len = run_through is_stop is_text (λ x. not-not (is_text x)) xs i n room none in
+    fine-more xs i n above (fine-text (drop i xs) n (omega (arith, len)))
+
+-- the stops after the first bytes
+pub stops-after : (xs : List ℕ) (i n k : ℕ) → k ≤ n → stops_from xs i n / 2 ^ k ≡ stops_from xs (i + k) (n - k)
+stops-after xs i n k most =
+    let parts : k + (n - k) ≡ n = omega arith in
+    mask-after (map is_stop (take n (drop i xs))) k
+    ∙ ap mask_l (drop-map is_stop k (take n (drop i xs)))
+    ∙ ap (λ l. mask_l (map is_stop l))
+    (ap (λ m. drop k (take m (drop i xs))) (sym parts) ∙ drop-take k (n - k) (drop i xs) ∙ ap (take (n - k)) (drop-drop k i xs))
+
+-- ---- Text, and pairs of quiet bytes, begin no comment, no end of a block and no interpolation.
+
+other : (b : Bool) → not b ≡ true → b ≡ false
+other true h = let no : ⊥ = cc in absurd no
+other false h = refl
+
+not_first : (a b : Bool) → a ≡ false → (a && b) ≡ false
+not_first a b e = rw e refl
+
+not_second : (a b : Bool) → b ≡ false → (a && b) ≡ false
+not_second true b e = e
+not_second false b e = refl
+
+-- text
+pub text-free : (xs : List ℕ) (i n : ℕ) → n ≤ prefix_len is_text (drop i xs) → IsFreeTo i xs → IsFreeTo (i + n) xs
+text-free xs i n most above = λ k below.
+    elim (cases_lt k i) [
+      | inl early ↦ above k early
+      | inr late ↦
+          let back : i + (k - i) ≡ k = omega arith in
+          let is = prefix_len_passes is_text (drop i xs) (k - i) 0 (omega (arith, most)) in
+          let here : is_text (get_or xs k 0) ≡ true =
+          subst (λ b. is_text b ≡ true) (get_or-drop i xs (k - i) 0 ∙ ap (λ j. get_or xs j 0) back) is in
+          not_first (is_backslash (get_or xs k 0)) _ (other (is_backslash (get_or xs k 0)) (and_true (is_printable (get_or xs k 0)) _ here).1)
+    ]
+
+-- a pair
+pub pair-free : (xs : List ℕ) (i : ℕ) → is_quiet (get_or xs (i + 1) 0) ≡ true → IsFreeTo i xs → IsFreeTo (i + 2) xs
+pair-free xs i quiet above = grind (arith, get_or, and_true, cases_lt, not_second, other, not_first)
+
+-- up to the first stop of a vector
+pub free-stop : (xs : List ℕ) (i n : ℕ) → i + n ≤ length xs → n ≤ 64 → 0 < stops_from xs i n → IsFreeTo i xs
+    → IsFreeTo (i + count_trailing_zeros 64 (stops_from xs i n)) xs
+free-stop xs i n room short some above =
+    let len = run_stops is_stop is_text (λ x. not-not (is_text x)) xs i n room short some in
+    text-free xs i (count_trailing_zeros 64 (stops_from xs i n)) (omega (arith, len)) above
+
+-- where there is none, all of it
+pub free-through : (xs : List ℕ) (i n : ℕ) → i + n ≤ length xs → stops_from xs i n ≡ 0 → IsFreeTo i xs → IsFreeTo (i + n) xs
+free-through xs i n room none above =
+    let len = run_through is_stop is_text (λ x. not-not (is_text x)) xs i n room none in
+    text-free xs i n (omega (arith, len)) above
+
+-- the bytes before a place
+pub front-free : (xs : List ℕ) (n : ℕ) → n ≤ length xs → IsFreeTo n xs → IsFreeLine (take n xs)
+front-free xs n within h = grind (arith, length-take-le, get_or-take)
+
+-- the front of a line
+pub less-free : (xs : List ℕ) (n : ℕ) → IsFreeLine xs → IsFreeLine (take n xs)
+less-free xs n h = λ k l.
+    elim (cases_lt n (length xs)) [
+      | inl shorter ↦
+          let len = length-take-le n xs (omega arith) in
+          rw (get_or-take n xs k 0 (omega (arith, len)), get_or-take n xs (k + 1) 0 (omega (arith, len))) (h k (omega (arith, len)))
+      | inr all ↦ subst IsFreeLine (sym (take_all n xs (omega arith))) h k l
+    ]
+
+-- the text at the front
+pub text-front : (xs : List ℕ) (n : ℕ) → n ≤ prefix_len is_text xs → IsFreeTo n xs
+text-front xs n most = λ k below. text-free xs 0 n most (λ k below. absurd (omega arith)) k (omega (arith, below))
+
+pub text-front-free : (xs : List ℕ) (n : ℕ) → n ≤ prefix_len is_text xs → IsFreeLine (take n xs)
+text-front-free xs n most = front-free xs n (omega (arith, most, prefix_len-le-length is_text xs)) (text-front xs n most)

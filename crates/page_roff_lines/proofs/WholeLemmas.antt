@@ -12,8 +12,7 @@ use Rattle.page_roff_lines.specs.declared.Mark.TheVariants.{Unread, First, Secon
 use Rattle.page_roff_lines.specs.Lines.{letter, whole_lines, lines_made, line_left}
 use Rattle.page_roff_lines.specs.machine.Open.{Open, restart, close, count_byte, put, put_plain, put_pair, pair_mode, put_in, newline_in, put_newline, put_byte, ends_mark, mark_after, next_open, end_open}
 use Rattle.page_roff_lines.specs.laws.Cutting.{Point, first_point, point_at, next_point, end_point, point_after, line_at, lines_within, last_line}
-use Rattle.page_roff_lines.proofs.OpenLaws.{next_open-mark}
-use Rattle.page_roff_lines.proofs.PointLemmas.{point_after-append, lines_within-append}
+use Rattle.page_roff_lines.proofs.PointLemmas.{next_open-mark, point_after-append, lines_within-append}
 use Rattle.page_roff_lines.proofs.LineAgreement.{lines-one_by_one, next_open-whole}
 
 -- ---- where bytes were read that another byte may take away, a line was begun

@@ -2,7 +2,7 @@
 ghost use Rattle.std.specs.Prelude.{◌≡◌, ◌+◌, ◌^◌, ◌<◌, ◌≤◌, ◌∷◌, [], length, true, IfOk};
 ghost use Rattle.std.specs.List.{list_all};
 ghost use Rattle.page_roff_decoding.specs.Decoding.{is_printable};
-ghost use Rattle.page_roff_lines.specs.machine.Held.{extend, shorten, nothing_held};
+ghost use Rattle.page_roff_lines.specs.machine.Open.{extend, shorten, nothing_held};
 ghost use Rattle.page_core_base.specs.laws.Views.{IsFreeLine};
 
 use page_core_base::LINE;
@@ -26,7 +26,7 @@ impl Model for HeldText {
     ghost use Rattle.std.specs.List.{list_all};
     ghost use Rattle.page_core_base.specs.declared.limits.TheConstants.{LINE};
     ghost use Rattle.page_roff_decoding.specs.Decoding.{is_printable};
-    ghost use Rattle.page_roff_lines.specs.machine.Held.{Held};
+    ghost use Rattle.page_roff_lines.specs.machine.Open.{Held};
     ghost use Rattle.page_core_base.specs.laws.Views.{IsFreeLine};
 
     ghost Value = { Held };

@@ -41,7 +41,7 @@ pub struct OpenLine {
 
 impl Model for OpenLine {
     ghost use Rattle.std.specs.Prelude.{◌≤◌, ◌<◌, ◌+◌, ◌^◌};
-    ghost use Rattle.page_roff_lines.specs.machine.Open.{Open};
+    ghost use Rattle.page_roff_lines.specs.machine.Open.{Open, mark_after, ends_mark, is_settled, first_open, restart, put, put_plain, put_pair, put_in, without_return, newline_in, put_newline, next_open, end_open, count_byte, close, open_after, whole_lines, kept_of, is_marked, IsFine, IsRead, ReadsText, with_run};
 
     ghost Value = { Open };
 
@@ -62,9 +62,6 @@ impl Model for OpenLine {
 }
 
 impl Mark {
-    ghost use Rattle.page_roff_lines.specs.machine.Open.{mark_after, ends_mark};
-    ghost use Rattle.page_roff_lines.specs.machine.Run.{is_settled};
-
     // How much of the mark came with this byte.
     #[tactic(auto, unfolding(crate::specs::machine::Open::mark_after))]
     fn after(self, byte: u8) -> Mark
@@ -111,9 +108,7 @@ fn pair_mode(byte: u8) -> Mode
 }
 
 impl OpenLine {
-    ghost use Rattle.page_roff_lines.specs.machine.Open.{first_open, restart, put, put_plain, put_pair, put_in, without_return, newline_in, put_newline, next_open, end_open, count_byte, close, ends_mark, open_after, whole_lines, kept_of, is_marked};
     ghost use Rattle.page_roff_lines.specs.laws.Views.{newline};
-    ghost use Rattle.page_roff_lines.specs.machine.Run.{IsFine, IsRead, ReadsText, with_run};
 
     /// Before the first byte of a page, with the memory that it will ever hold.
     pub fn new(alloc: Global) -> Result<OpenLine, AllocError>

@@ -2,7 +2,7 @@
 ghost use Rattle.std.specs.Prelude.{◌≡◌, ℕ, ◌+◌, ◌<◌, ◌≤◌, length, take, slice_index, true, false};
 ghost use Rattle.std.specs.List.{list_all};
 ghost use Rattle.page_roff_decoding.specs.Decoding.{is_printable};
-ghost use Rattle.page_roff_lines.specs.machine.Run.{BeginsPair, IsFine, IsFreeTo, IsText, is_quiet, ends_run as spec_ends_run, stays as spec_stays};
+ghost use Rattle.page_roff_lines.specs.machine.Open.{BeginsPair, IsFine, IsFreeTo, IsText, is_quiet, ends_run as spec_ends_run, stays as spec_stays};
 ghost use Rattle.page_core_base.specs.laws.Views.{IsFreeLine};
 
 use crate::Mode;

@@ -22,28 +22,22 @@ use Rattle.page_roff_blocks.specs.Parts.{line_parts}
 use Rattle.page_roff_blocks.specs.Forest.{Levels}
 use Rattle.page_roff_blocks.specs.laws.Views.{BlockCursor, answered, after_part, guarded_by, way_of, passed, reached, reached_in, skip, what_ends, at_line, leave}
 use Rattle.page_roff_syntax.specs.Regions.{Opened, opened}
-use Rattle.page_roff_blocks.specs.machine.Run.{Meaning, meet_as, value, refuse_if, keep_if}
+use Rattle.page_roff_blocks.specs.machine.Steps.{Meaning, meet_as, value, refuse_if, keep_if, met, guard_with, guard_met, step_guard, block_with, opening_met, block_met, step_block, step_region, collect_if}
 use Rattle.page_roff_blocks.specs.machine.Steps as steps
-use Rattle.page_roff_blocks.specs.machine.Steps.{met, guard_with, guard_met, step_guard, block_with, opening_met, block_met, step_block, step_region, collect_if}
-use Rattle.page_roff_blocks.specs.machine.Languages.{Kind, page, body, Language, is_some, meaning_by, meaning_at, finish_at}
+use Rattle.page_roff_blocks.specs.machine.Languages.{Kind, page, body, Language, is_some, meaning_by, meaning_at, finish_at, Budget, Budgeted, meaning, language, end_line}
 use Rattle.page_roff_blocks.specs.machine.Machine as machine
-use Rattle.page_roff_blocks.specs.machine.Machine.{Frame, Running, Turning, depth, at_part, between, leaf_next, loop_next, end_next, finish_if, part_next, line_next, region_next, next}
-use Rattle.page_roff_blocks.specs.machine.Counting.{Budget}
-use Rattle.page_roff_blocks.specs.machine.Measures.{HasMeasure, IsOnLine}
-use Rattle.page_roff_blocks.specs.machine.Budgets.{Budgeted, meaning, language, end_line}
+use Rattle.page_roff_blocks.specs.machine.Machine.{Frame, Running, Turning, depth, at_part, between, leaf_next, loop_next, end_next, finish_if, part_next, line_next, region_next, next, HasMeasure, IsOnLine}
 use Rattle.page_roff_effects.specs.declared.commands.ProductKind.{ProductKind}
 use Rattle.page_roff_effects.specs.declared.commands.ProductKind.TheVariants as kinds
-use Rattle.page_roff_effects.specs.machine.Acting.{IfCalled, IsCallable, IfRepeated, IsRepeatable, acting_effects, measured}
-use Rattle.page_roff_effects.specs.machine.Effects.{effects}
+use Rattle.page_roff_effects.specs.machine.Acting.{IfCalled, IsCallable, IfRepeated, IsRepeatable, acting_effects, measured, effects}
 use Rattle.page_roff_effects.specs.laws.Views.{State}
 use Rattle.page_roff_effects.specs.States.{Given, says}
 use Rattle.page_roff_stack.specs.declared.next.Next.{Next}
 use Rattle.page_roff_stack.specs.declared.next.Next.TheVariants.{Part, Line, RegionLine, Turn, SourceEnd, Nothing}
-use Rattle.page_roff_stack.specs.machine.Changes.{is_page, next_line, first_line_parts, first_region, region_of, past}
+use Rattle.page_roff_stack.specs.machine.Stacks.{is_page, next_line, first_line_parts, first_region, region_of, past, Stack, running, with_top, has_begun, turn_in, turn_or_end, next_around, next_in, next_of, part_in, is_part, is_line, is_turn, may_end, is_nothing, end_of, turn_if, step_in, step_of}
 use Rattle.page_roff_stack.specs.declared.movements.Movement.TheVariants as moves
 use Rattle.page_roff_stack.specs.machine.Stacks as stacks
-use Rattle.page_roff_stack.specs.machine.Stacks.{Stack, running, with_top, has_begun, turn_in, turn_or_end, next_around, next_in, next_of, part_in, is_part, is_line, is_turn, may_end, is_nothing, end_of, turn_if, step_in, step_of}
-use Rattle.page_roff_stack.proofs.StackLemmas.{next_steps}
+use Rattle.page_roff_stack.proofs.InputStackLemmas.{next_steps}
 use Rattle.page_roff_machine.specs.declared.budgeted_actions.BudgetedActions.{BudgetedActions}
 use Rattle.page_roff_machine.specs.declared.acts.Act.{Act}
 use Rattle.page_roff_machine.specs.declared.acts.Act.TheVariants as acts
@@ -53,7 +47,7 @@ use Rattle.page_roff_machine.specs.machine.Doing.{HasRoom, output_of, state_in, 
 use Rattle.page_roff_machine.specs.machine.Moving.{refused, moved, reached_with, CanBegin, passes_block, line_in, Collects, Suits, Decides}
 use Rattle.page_roff_machine.specs.machine.Stepping.{IsSound, Steps}
 use Rattle.page_roff_machine.proofs.DoingLemmas.{came_none, stays, both, kind_after}
-use Rattle.page_roff_machine.proofs.FrameLemmas.{same_source}
+use Rattle.page_roff_machine.proofs.GoLemmas.{same_source}
 
 -- ---- the meaning of parts, however many macros may run
 

@@ -9,29 +9,22 @@ use Rattle.page_roff_blocks.specs.Parts.{line_parts}
 use Rattle.page_roff_blocks.specs.Forest.{Levels, outside}
 use Rattle.page_roff_blocks.specs.laws.Views.{BlockCursor, at_line, after_part, reached, reached_in, reached_from, reached_if}
 use Rattle.page_roff_syntax.specs.Regions.{Opened}
-use Rattle.page_roff_blocks.specs.machine.Run.{At, meet_as}
-use Rattle.page_roff_blocks.specs.machine.Steps.{met, begin_line, collect_if}
-use Rattle.page_roff_blocks.specs.machine.Languages.{Kind, page, body, Language, Done, calls, gives, is_some, meaning_at, meaning_by, run_page}
-use Rattle.page_roff_blocks.specs.machine.Machine.{Frame, Running, Turning, at_page, at_part, depth, entered, next, next_in, line_next, part_next, leaf_if, leaf_next, rest_of, source_next, stands_at}
+use Rattle.page_roff_blocks.specs.machine.Steps.{At, meet_as, met, begin_line, collect_if}
+use Rattle.page_roff_blocks.specs.machine.Languages.{Kind, page, body, Language, Done, calls, gives, is_some, meaning_at, meaning_by, run_page, Budgeted, language, meaning, meet, whether_run, done_with, with_rest, Budget, budgeted, begun, renewed}
+use Rattle.page_roff_blocks.specs.machine.Machine.{Frame, Running, Turning, at_page, at_part, depth, entered, next, next_in, line_next, part_next, leaf_if, leaf_next, rest_of, source_next, stands_at, AreOnLine, HasMeasure, IsFirst, IsOnLine}
 use Rattle.page_roff_blocks.proofs.MachineLemmas.{next_law, end_law, page_law}
-use Rattle.page_roff_blocks.specs.machine.Budgets.{Budgeted, language, meaning, meet, whether_run, done_with, with_rest}
-use Rattle.page_roff_blocks.specs.machine.Budgets as budgets
-use Rattle.page_roff_blocks.specs.machine.Counting.{Budget, budgeted, begun, renewed}
-use Rattle.page_roff_blocks.specs.machine.Measures.{AreOnLine, HasMeasure, IsFirst, IsOnLine}
-use Rattle.page_roff_effects.specs.machine.Acting.{with_number, with_arguments, acting_effects, acting_setting, measured, ActingSetting}
-use Rattle.page_roff_effects.specs.machine.Effects.{effects, done_after, done_by}
+use Rattle.page_roff_blocks.specs.machine.Languages as budgets
+use Rattle.page_roff_effects.specs.machine.Acting.{with_number, with_arguments, acting_effects, acting_setting, measured, ActingSetting, effects, done_after, done_by}
 use Rattle.page_roff_effects.specs.Lines.{leaf_outcome}
 use Rattle.page_roff_definitions.specs.machine.Buffers.{MacroCall}
 use Rattle.page_roff_values.specs.Values.{arguments_in, lines_in}
 use Rattle.page_roff_effects.specs.States.{Memory, PartOutcome, Given, takes, call_product, line_product, numbered}
 use Rattle.page_roff_effects.specs.laws.Views.{State}
-use Rattle.page_roff_stack.specs.machine.Changes.{is_page, page_line}
-use Rattle.page_roff_stack.specs.machine.Stacks.{Stack, is_nothing, next_of}
+use Rattle.page_roff_stack.specs.machine.Stacks.{is_page, page_line, Stack, is_nothing, next_of}
 use Rattle.page_roff_stack.specs.machine.Stacks as stacks
 use Rattle.page_roff_machine.proofs.GoLemmas.{calls_next}
 use Rattle.page_roff_machine.specs.declared.runners.Runner.{Runner}
-use Rattle.page_roff_machine.specs.machine.AtOnce.{CallsAtOnce, IsOutside, TakesAtOnce, Keeps, page_after}
-use Rattle.page_roff_machine.specs.machine.Machines.{Takes, Begins, is_idle, begun_at, outcome_of, running_of, stands_after}
+use Rattle.page_roff_machine.specs.machine.Machines.{CallsAtOnce, IsOutside, TakesAtOnce, Keeps, page_after, Takes, Begins, is_idle, begun_at, outcome_of, running_of, stands_after}
 use Rattle.page_roff_machine.specs.machine.Stepping.{machine_of, IsSound}
 use Rattle.page_roff_machine.specs.machine.Moving.{AreKept, called, frames_of}
 use Rattle.page_roff_machine.proofs.MachineLemmas.{begins, begun_sound}

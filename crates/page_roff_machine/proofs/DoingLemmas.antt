@@ -13,23 +13,20 @@ use Rattle.page_roff_blocks.specs.declared.block_cursors.Reached.{Reached}
 use Rattle.page_roff_blocks.specs.declared.block_cursors.Reached.TheVariants.{PassedOver, First, Remainder}
 use Rattle.page_roff_syntax.specs.Regions.{Opened}
 use Rattle.page_roff_blocks.specs.Parts.{loop_text}
-use Rattle.page_roff_blocks.specs.machine.Run.{meet_as, value, keep_if}
+use Rattle.page_roff_blocks.specs.machine.Steps.{meet_as, value, keep_if}
 use Rattle.page_core_base.specs.laws.Views.{Came}
-use Rattle.page_roff_blocks.specs.machine.Languages.{Kind, page, body, gives, calls, repeats}
-use Rattle.page_roff_blocks.specs.machine.Budgets.{Budgeted, Effects, with_rest, charge_by, charge, begin_line, whether_run, meet, test, unopened_by, read_line, end_line, collect_some, meaning, done_with, closed_with, turn_by, turn, language}
-use Rattle.page_roff_blocks.specs.machine.Counting.{Budget, budgeted, begun, charged_by, charged, exhausts_by, exhausts}
+use Rattle.page_roff_blocks.specs.machine.Languages.{Kind, page, body, gives, calls, repeats, Budgeted, Effects, with_rest, charge_by, charge, begin_line, whether_run, meet, test, unopened_by, read_line, end_line, collect_some, meaning, done_with, closed_with, turn_by, turn, language, Budget, budgeted, begun, charged_by, charged, exhausts_by, exhausts}
 use Rattle.page_roff_effects.specs.declared.commands.ProductKind.{ProductKind}
 use Rattle.page_roff_effects.specs.declared.commands.ProductKind.TheVariants as kinds
 use Rattle.page_roff_effects.specs.machine.Acting as acting
-use Rattle.page_roff_effects.specs.machine.Acting.{Acting, kind_of, Lends, IfRepeated, acting_effects, acting_setting, measured, ActingSetting}
+use Rattle.page_roff_effects.specs.machine.Acting.{Acting, kind_of, Lends, IfRepeated, acting_effects, acting_setting, measured, ActingSetting, effects, turn_answer, tested_after, done_by, done_after}
 use Rattle.page_roff_effects.specs.States.{answer_of, test_outcome, budget_outcome, end_of_block_outcome, TextSetting, Memory, PartOutcome, Product, no_product, line_product, call_product, loop_product, Given, says, takes, lines_of}
-use Rattle.page_roff_effects.specs.machine.Effects.{effects, turn_answer, tested_after, done_by, done_after}
 use Rattle.page_roff_effects.specs.Lines.{leaf_outcome}
 use Rattle.page_roff_effects.specs.Regions.{longer_if_some, loop_outcome, collect_outcome, close_outcome, head_outcome, longer_if, longer, line_outcome, end_outcome, finish_region, finish_outcome}
 use Rattle.page_roff_definitions.specs.Definitions.{with_line}
 use Rattle.page_roff_values.specs.Answers.{Answer}
 use Rattle.page_roff_effects.specs.laws.Views.{State, after}
-use Rattle.page_roff_stack.specs.machine.Changes.{is_page}
+use Rattle.page_roff_stack.specs.machine.Stacks.{is_page}
 use Rattle.page_roff_machine.specs.declared.budgeted_actions.BudgetedActions.{BudgetedActions}
 use Rattle.page_roff_machine.specs.machine.Doing.{output_of, state_in, state_after, answer_with, line_after, IsIn, IsAt, Makes, Does, Answers, parts_of, charged_in, begun_in, met_in, value_in, answer_after, answer_in, region_after, region_in, opens_after, opened_in, closed_in, closes_after, passed_in, kept_in, collected_in, turned_in, leaf_after, leaf_in, line_of, done_as, read_in, read_kept_in, ended_in, ended_kept_in, unopened_in, finished_in}
 

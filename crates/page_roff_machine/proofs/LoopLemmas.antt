@@ -4,27 +4,22 @@ use Rattle.page_core_base.specs.Messages.{Message}
 use Rattle.page_core_base.specs.declared.page_settings.Output.{Output}
 use Rattle.page_roff_blocks.specs.laws.Views.{after_part}
 use Rattle.page_roff_values.specs.Values.{lines_in}
-use Rattle.page_roff_blocks.specs.machine.Languages.{arguments_of, Kind, page, body, inner, repeats, Language, is_some}
-use Rattle.page_roff_blocks.specs.machine.Machine.{Frame, looped, at_part, depth, leaf_next, loop_next}
-use Rattle.page_roff_blocks.specs.machine.Measures.{weight}
-use Rattle.page_roff_blocks.specs.machine.Budgets.{Budgeted, language}
+use Rattle.page_roff_blocks.specs.machine.Languages.{arguments_of, Kind, page, body, inner, repeats, Language, is_some, Budgeted, language}
+use Rattle.page_roff_blocks.specs.machine.Machine.{Frame, looped, at_part, depth, leaf_next, loop_next, weight}
 use Rattle.page_roff_effects.specs.declared.commands.ProductKind.{ProductKind}
 use Rattle.page_roff_effects.specs.declared.commands.ProductKind.TheVariants as kinds
 use Rattle.page_roff_effects.specs.machine.Acting.{IsRepeatable, IfRepeated, acting_effects, acting_setting}
 use Rattle.page_roff_effects.specs.Regions.{first_line, condition_in, body_in}
 use Rattle.page_roff_effects.specs.laws.Views.{State}
 use Rattle.page_roff_effects.specs.States.{Given, says}
-use Rattle.page_roff_stack.specs.machine.Changes.{past}
-use Rattle.page_roff_stack.specs.machine.Stacks.{with_top, first_text}
-use Rattle.page_roff_stack.specs.machine.Views.{unpacked}
+use Rattle.page_roff_stack.specs.machine.Stacks.{past, with_top, first_text, unpacked}
 use Rattle.page_roff_machine.specs.declared.budgeted_actions.BudgetedActions.{BudgetedActions}
 use Rattle.page_roff_machine.specs.declared.acts.Act.TheVariants as acts
 use Rattle.page_roff_machine.specs.declared.acts.Progress.TheVariants.{More}
 use Rattle.page_roff_machine.specs.declared.runners.Runner.{Runner}
 use Rattle.page_roff_machine.specs.machine.Doing.{output_of, state_in, done_as, IsIn, Makes, closed_in}
 use Rattle.page_roff_machine.specs.machine.Moving.{moved, reached_with, Repeats, AreKept, frames_of, IsBodyWithin, Shifts, Closes}
-use Rattle.page_roff_machine.proofs.FrameLemmas.{rest_within, same_source, same_kept}
-use Rattle.page_roff_machine.proofs.GoLemmas.{gives_next}
+use Rattle.page_roff_machine.proofs.GoLemmas.{rest_within, same_source, same_kept, gives_next}
 
 -- ---- a loop begins
 

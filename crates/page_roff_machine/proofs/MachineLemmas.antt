@@ -7,27 +7,20 @@ use Rattle.page_roff_blocks.specs.declared.line_parts.LinePart.{LinePart}
 use Rattle.page_roff_blocks.specs.Forest.{SourcePlace}
 use Rattle.page_roff_blocks.specs.laws.Views.{at_line}
 use Rattle.page_roff_syntax.specs.Regions.{Opened}
-use Rattle.page_roff_blocks.specs.machine.Run.{Meaning, At}
-use Rattle.page_roff_blocks.specs.machine.Languages.{Language, meaning_at, run_page}
-use Rattle.page_roff_blocks.specs.machine.Machine.{Frame, depth, at_page, rest_of, next, stands_at}
-use Rattle.page_roff_blocks.specs.machine.Budgets.{Budgeted, language}
-use Rattle.page_roff_blocks.specs.machine.Fronts.{over}
-use Rattle.page_roff_blocks.proofs.FrontLemmas.{rest_front}
-use Rattle.page_roff_blocks.proofs.MachineLemmas.{next_law, end_law, page_law}
-use Rattle.page_roff_blocks.specs.machine.Counting.{renewed}
-use Rattle.page_roff_blocks.specs.machine.Measures.{HasMeasure, AreOnLine, IsOnLine, IsFirst}
+use Rattle.page_roff_blocks.specs.machine.Steps.{Meaning, At}
+use Rattle.page_roff_blocks.specs.machine.Languages.{Language, meaning_at, run_page, Budgeted, language, renewed}
+use Rattle.page_roff_blocks.specs.machine.Machine.{Frame, depth, at_page, rest_of, next, stands_at, over, HasMeasure, AreOnLine, IsOnLine, IsFirst}
+use Rattle.page_roff_blocks.proofs.MachineLemmas.{rest_front, next_law, end_law, page_law}
 use Rattle.page_roff_effects.specs.machine.Acting as acting
-use Rattle.page_roff_effects.specs.machine.Acting.{Acting, with_number, with_arguments, acting_effects, measured}
-use Rattle.page_roff_effects.specs.machine.Effects.{in_front}
-use Rattle.page_roff_stack.specs.machine.Changes.{page_line}
+use Rattle.page_roff_effects.specs.machine.Acting.{Acting, with_number, with_arguments, acting_effects, measured, in_front}
+use Rattle.page_roff_stack.specs.machine.Stacks.{page_line, Stack, first_stack, next_in, next_of, is_nothing, step_in, step_of}
 use Rattle.page_roff_effects.specs.States.{Memory, Given, says}
 use Rattle.page_roff_effects.specs.laws.Views.{State}
 use Rattle.page_roff_values.specs.Values.{units_of}
-use Rattle.page_roff_effects.proofs.GivenLemmas.{is_front}
+use Rattle.page_roff_effects.proofs.CountLemmas.{is_front}
 use Rattle.page_roff_stack.specs.declared.next.Next.{Next}
 use Rattle.page_roff_stack.specs.declared.next.Next.TheVariants as things
-use Rattle.page_roff_stack.specs.machine.Stacks.{Stack, first_stack, next_in, next_of, is_nothing, step_in, step_of}
-use Rattle.page_roff_stack.proofs.StackLemmas.{next_steps}
+use Rattle.page_roff_stack.proofs.InputStackLemmas.{next_steps}
 use Rattle.page_roff_machine.specs.Giving.{notes_before, next_line, after_line}
 use Rattle.page_roff_machine.specs.declared.runners.Runner.{Runner}
 use Rattle.page_roff_machine.specs.machine.Machines.{Machine, output_of, language_of, running_of, outcome_of, is_idle, stands, begun_at, Begins, IsNew, Resumes}

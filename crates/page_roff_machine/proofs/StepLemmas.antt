@@ -3,16 +3,13 @@ use Rattle.std.proofs.Common.{◌≡◌, ℕ, suc, ◌≤◌, inl, inr, Bool, tr
 use Rattle.std.proofs.lemmas.List.{append-nil}
 use Rattle.page_core_base.specs.Messages.{Message}
 use Rattle.page_core_base.specs.declared.page_settings.Output.{Output}
-use Rattle.page_roff_blocks.specs.machine.Run.{At}
+use Rattle.page_roff_blocks.specs.machine.Steps.{At}
 use Rattle.page_core_base.specs.laws.Views.{Came}
-use Rattle.page_roff_blocks.specs.machine.Machine.{next}
-use Rattle.page_roff_effects.specs.machine.Acting.{acting_effects, measured}
-use Rattle.page_roff_blocks.specs.machine.Measures.{measure, HasMeasure, HasBodyWithin, IsFirst, credit}
-use Rattle.page_roff_blocks.specs.machine.Budgets.{Budgeted, language}
-use Rattle.page_roff_blocks.specs.machine.Fronts.{over}
-use Rattle.page_roff_blocks.proofs.MeasureLemmas.{next_falls}
-use Rattle.page_roff_blocks.proofs.OnLineLemmas.{first_falls}
-use Rattle.page_roff_effects.specs.machine.Effects.{in_front}
+use Rattle.page_roff_blocks.specs.machine.Machine.{next, measure, HasMeasure, HasBodyWithin, IsFirst, credit, over}
+use Rattle.page_roff_effects.specs.machine.Acting.{acting_effects, measured, in_front}
+use Rattle.page_roff_blocks.specs.machine.Languages.{Budgeted, language}
+use Rattle.page_roff_blocks.proofs.CreditLemmas.{next_falls}
+use Rattle.page_roff_blocks.proofs.StepLemmas.{first_falls}
 use Rattle.page_roff_effects.specs.laws.Views.{State}
 use Rattle.page_roff_effects.specs.States.{Given, says, takes}
 use Rattle.page_roff_stack.specs.declared.next.Next.TheVariants.{Nothing}
@@ -28,7 +25,7 @@ use Rattle.page_roff_machine.specs.machine.Moving.{moved, reached_with, AreKept,
 use Rattle.page_roff_machine.specs.machine.Stepping.{machine_of, IsMeasured, IsSound, Steps, Leads}
 use Rattle.page_roff_machine.proofs.ActLemmas.{step_next, is_nothing_next}
 use Rattle.page_roff_machine.proofs.DoingLemmas.{came_none, came_both, said}
-use Rattle.page_roff_machine.proofs.FrameLemmas.{same_source}
+use Rattle.page_roff_machine.proofs.GoLemmas.{same_source}
 use Rattle.page_roff_machine.proofs.MachineLemmas.{notes_after, line_after, rest_after, outcome_step, outcome_end}
 
 -- what is left of a line, in steps

@@ -1,5 +1,4 @@
 -- The code's own steps and fast ways. Trust needs no reading of them.
-pub mod AtOnce
 pub mod Doing
 pub mod Machines
 pub mod Moving

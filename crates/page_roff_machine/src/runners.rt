@@ -9,9 +9,8 @@ ghost use Rattle.page_roff_effects.specs.declared.commands.ProductKind.TheVarian
 ghost use Rattle.page_roff_effects.specs.machine.Acting.{IsCallable};
 ghost use Rattle.page_roff_stack.specs.machine.Stacks.{next_of, part_in, is_part, is_line, may_end, is_nothing};
 ghost use Rattle.page_roff_machine.specs.machine.Doing.{IsIn};
-ghost use Rattle.page_roff_machine.specs.machine.Machines.{Advances};
+ghost use Rattle.page_roff_machine.specs.machine.Machines.{Advances, IsOutside, TakesAtOnceIf, page_after};
 ghost use Rattle.page_roff_machine.specs.machine.Moving.{Collects, Decides, Moves, Closes, Shifts, Repeats, Suits, CanBegin, called, passes_block, progress_as, way_after, with_arguments_of};
-ghost use Rattle.page_roff_machine.specs.machine.AtOnce.{IsOutside, TakesAtOnceIf, page_after};
 ghost use Rattle.page_roff_machine.specs.machine.Stepping.{IsSound, IsMeasured, Steps, machine_of};
 
 use crate::acts::{Act, Progress};

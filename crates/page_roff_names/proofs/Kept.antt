@@ -1,5 +1,10 @@
--- What each change of one set keeps.
-use Rattle.std.proofs.Common.{◌≡◌, ◌≢◌, ℕ, zero, suc, ◌+◌, ◌-◌, ◌<◌, ◌≤◌, Bool, true, false, cond, not, List, [], ◌∷◌, ◌++◌, length, unwrap_or, T, Some, None, MatchOption, ◌⊎◌, inl, inr, subst, refl, sym, ap, ◌∙◌, add_comm, arith}
+-- Which limit refuses a definition.
+use Rattle.std.proofs.Common.{◌≡◌, ℕ, ◌≤◌, Bool, true, false, cond, Some, None, refl, ap, ◌∙◌, ◌≢◌, zero, suc, ◌+◌, ◌-◌, ◌<◌, not, List, [], ◌∷◌, ◌++◌, length, unwrap_or, T, MatchOption, ◌⊎◌, inl, inr, subst, sym, add_comm, arith}
+use Rattle.std.specs.Prelude.{nat_lt}
+use Rattle.std.proofs.lemmas.Bool.{ltb-false, le-ltb, cases_lt}
+use Rattle.page_core_base.specs.declared.limits.TheConstants.{BODY, DEFS, NAME, NAMES}
+use Rattle.page_core_base.specs.declared.limits.Limit.TheVariants.{Name, Names, Body, Defs}
+use Rattle.page_roff_names.specs.Names.{first_passed, Entries, Definition, definition, size, Definitions, definitions, with_text, by_bytes, look, put, without}
 use Rattle.std.specs.declared.cmp.Ordering.{Ordering}
 use Rattle.std.specs.declared.cmp.Ordering.TheVariants.{Less, Equal, Greater}
 use Rattle.std.specs.Ordering.{is_eq}
@@ -9,19 +14,48 @@ use Rattle.std.specs.declared.result.Result.TheVariants.{Ok, Err}
 use Rattle.std.specs.FinMap.{is_sorted}
 use Rattle.std.specs.FinMap.Entries.{by_order, is_sorted-put, is_sorted-where_key}
 use Rattle.std.specs.List.{insert, remove}
-use Rattle.std.proofs.lemmas.Bool.{cases_lt}
 use Rattle.std.proofs.lemmas.Cmp.{nat_list_cmp_total}
-use Rattle.page_core_base.specs.declared.limits.TheConstants.{BODY, NAME}
 use Rattle.page_core_base.specs.declared.limits.Limit.{Limit}
 use Rattle.page_roff_names.specs.declared.changes.OtherSet.{OtherSet}
 use Rattle.page_roff_names.specs.declared.rows.EntryKind.{EntryKind}
 use Rattle.page_roff_names.specs.laws.Views.{EntryFits, EntriesFit, DefinitionsFit, name_at, definition_at, value_at, Defines}
-use Rattle.page_roff_names.specs.Names.{Entries, Definition, definition, size, Definitions, definitions, with_text, by_bytes, first_passed, look, put, without}
 use Rattle.page_roff_names.specs.machine.Changes.{refusal_beside, Settles, RenamesBeside, IsKept, IsStore, IsBelow, IsAbove, PlaceWithout}
 use Rattle.std.proofs.lemmas.List.Edits.{length-remove, length-insert}
-use Rattle.page_roff_names.proofs.Laid.{size-remove, size-insert}
-use Rattle.page_roff_names.proofs.Search.{same_name, look_hit, put_hit, without_hit, look_miss, put_miss, sorted_remove, entry_left, remove_both}
-use Rattle.page_roff_names.proofs.Refused.{within, none_passed, same_limits}
+use Rattle.page_roff_names.proofs.Laid.{size-remove, size-insert, same_name, look_hit, put_hit, without_hit, look_miss, put_miss, sorted_remove, entry_left, remove_both}
+
+pub same_limits : (a : ℕ) {b c v w y z : ℕ} → b ≡ c → v ≡ w → y ≡ z → first_passed a b v y ≡ first_passed a c w z
+same_limits a {b} {c} {v} {w} {y} {z} e f g = ap (λ b. first_passed a b v y) e ∙ ap (λ v. first_passed a c v y) f ∙ ap (first_passed a c w) g
+
+within_by : (a b c d : Bool) → cond a (Some Name) (cond b (Some Names) (cond c (Some Body) (cond d (Some Defs) None))) ≡ None
+    → (a ≡ false) × (b ≡ false) × (c ≡ false) × (d ≡ false)
+within_by true b c d e = Prim.cc
+within_by false true c d e = Prim.cc
+within_by false false true d e = Prim.cc
+within_by false false false true e = Prim.cc
+within_by false false false false e = (refl, refl, refl, refl)
+
+-- a definition that is not refused is within each limit
+pub record IsWithin (name names value bytes : ℕ) : Type 0 where
+  pub name_fits : name ≤ NAME
+  pub names_fit : names ≤ NAMES
+  pub value_fits : value ≤ BODY
+  pub bytes_fit : bytes ≤ DEFS
+
+pub within : (name names value bytes : ℕ) → first_passed name names value bytes ≡ None → IsWithin name names value bytes
+unfolding first_passed
+within a b v z e =
+    let h = within_by (nat_lt NAME a) (nat_lt NAMES b) (nat_lt BODY v) (nat_lt DEFS z) e in
+    record { name_fits = ltb-false _ _ h.0; names_fit = ltb-false _ _ h.1; value_fits = ltb-false _ _ h.2; bytes_fit = ltb-false _ _ h.3 }
+
+pub none_passed : {name names value bytes : ℕ} → IsWithin name names value bytes → first_passed name names value bytes ≡ None
+unfolding first_passed
+none_passed {name} {names} {value} {bytes} h =
+    ap (λ t. cond t (Some Name) (cond (nat_lt NAMES names) (Some Names) (cond (nat_lt BODY value) (Some Body) (cond (nat_lt DEFS bytes) (Some Defs) None)))) (le-ltb NAME name h.name_fits)
+    ∙ ap (λ t. cond t (Some Names) (cond (nat_lt BODY value) (Some Body) (cond (nat_lt DEFS bytes) (Some Defs) None))) (le-ltb NAMES names h.names_fit)
+    ∙ ap (λ t. cond t (Some Body) (cond (nat_lt DEFS bytes) (Some Defs) None)) (le-ltb BODY value h.value_fits)
+    ∙ ap (λ t. cond t (Some Defs) None) (le-ltb DEFS bytes h.bytes_fit)
+
+-- ---- What each change of one set keeps.
 
 fit_by_order : (r : Ordering) (a b c : Entries) → EntriesFit a → EntriesFit b → EntriesFit c → EntriesFit (by_order r a b c)
 fit_by_order Less a b c p q s = p

@@ -4,7 +4,7 @@ ghost use Rattle.std.specs.List.{All, insert, remove};
 ghost use Rattle.std.specs.Vec.{vec_len, vec_capacity};
 ghost use Rattle.page_roff_names.specs.Names.{size, definition};
 ghost use Rattle.page_roff_names.specs.laws.Views.{name_at, definition_at};
-ghost use Rattle.page_roff_names.specs.machine.Layout.{slice, entry, cut, IsWithin, EndsBy};
+ghost use Rattle.page_roff_names.specs.machine.Changes.{slice, entry, cut, IsWithin, EndsBy};
 
 use page_core_base::{DEFS, NAMES, append};
 use std::alloc::{AllocError, Global};
@@ -46,7 +46,7 @@ pub struct Row {
 impl Model for Row {
     ghost use Rattle.std.specs.Vec.{vec_capacity};
     ghost use Rattle.page_roff_names.specs.Names.{Entries};
-    ghost use Rattle.page_roff_names.specs.machine.Layout.{cut, IsLaid};
+    ghost use Rattle.page_roff_names.specs.machine.Changes.{cut, IsLaid};
 
     ghost Value = { Entries };
 

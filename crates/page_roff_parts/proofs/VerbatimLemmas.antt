@@ -9,7 +9,7 @@ use Rattle.memchr.specs.Find.{IsFirstByte, is_byte}
 use Rattle.page_roff_syntax.specs.Delimiters.{character_len}
 use Rattle.page_roff_parts.specs.Parts.{after_plain, call_cut, copies, parts, parts_up_to, plain, seen}
 use Rattle.page_roff_parts.specs.machine.Verbatim.{IsFree, IsVerbatim, may_call}
-use Rattle.page_roff_parts.proofs.ReadLemmas.{escape_alone, escape_pair, parts_more, plain_part}
+use Rattle.page_roff_parts.proofs.FrontLemmas.{escape_alone, escape_pair, parts_more, plain_part}
 
 -- ---- what is read
 

@@ -3,8 +3,7 @@
 ghost use Rattle.std.specs.Prelude.{◌≡◌, ◌<◌, ◌≤◌, Bool, length, get_or, take, drop, None, IsTrue};
 ghost use Rattle.memchr.specs.Find.{IsFirstByte, is_byte};
 ghost use Rattle.page_core_base.specs.Bytes.{begins_escape};
-ghost use Rattle.page_roff_parts.specs.machine.Brackets.{IsKnown};
-ghost use Rattle.page_roff_parts.specs.machine.Fronts.{IsFront};
+ghost use Rattle.page_roff_parts.specs.machine.Verbatim.{IsKnown, IsFront};
 ghost use Rattle.page_roff_parts.specs.Parts.{call_cut, copies, seen};
 ghost use Rattle.page_roff_syntax.specs.Delimiters.{width_len};
 

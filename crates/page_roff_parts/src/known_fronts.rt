@@ -3,8 +3,8 @@
 ghost use Rattle.std.specs.Prelude.{◌≡◌, ◌+◌, ◌-◌, ◌<◌, ◌≤◌, length, vec_capacity, take, drop, false, IfSome, IsTrue};
 ghost use Rattle.page_core_base.specs.Bytes.{begins_escape};
 ghost use Rattle.page_roff_parts.specs.declared.known_fronts.TheConstants.{COUNT, TEXTS};
-ghost use Rattle.page_roff_parts.specs.machine.Brackets as brackets;
-ghost use Rattle.page_roff_parts.specs.machine.Fronts.{IsFront};
+ghost use Rattle.page_roff_parts.specs.machine.Verbatim as brackets;
+ghost use Rattle.page_roff_parts.specs.machine.Verbatim.{IsFront};
 ghost use Rattle.page_roff_parts.specs.machine.Known.{AreFronts, AreKnown, IsKnown, StayBefore};
 ghost use Rattle.page_roff_syntax.specs.machine.Closed.{AreMarked};
 ghost use Rattle.page_roff_syntax.specs.declared.closed_widths.TheConstants.{MET_WORDS};

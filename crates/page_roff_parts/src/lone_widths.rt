@@ -5,7 +5,7 @@
 //! there on. This is remembered, since a line may read a value many times.
 
 ghost use Rattle.std.specs.Prelude.{◌≤◌, length, false};
-ghost use Rattle.page_roff_parts.specs.machine.Fronts.{IsFront};
+ghost use Rattle.page_roff_parts.specs.machine.Verbatim.{IsFront};
 
 use crate::endings::after;
 use crate::known_fronts::KnownFronts;

@@ -2,9 +2,8 @@
 
 ghost use Rattle.std.specs.Prelude.{◌≡◌, ◌<◌, ◌≤◌, ◌+◌, ◌==◌, length, Some, None, IsTrue, option_map, take, drop, get_or};
 ghost use Rattle.page_core_base.specs.Bytes.{begins_escape};
-ghost use Rattle.page_roff_parts.specs.machine.Brackets.{IsKnown};
+ghost use Rattle.page_roff_parts.specs.machine.Verbatim.{IsKnown, seen_of, cut_of, call_of};
 ghost use Rattle.page_roff_parts.specs.Parts as reading;
-ghost use Rattle.page_roff_parts.specs.machine.Views.{seen_of, cut_of, call_of};
 
 use crate::endings::after;
 use memchr::memchr;

@@ -1,9 +1,8 @@
 //! What is left of a text.
 
 ghost use Rattle.std.specs.Prelude.{◌≡◌, ◌==◌, ◌<◌, ◌≤◌, length, take, drop};
-ghost use Rattle.page_roff_parts.specs.machine.Fronts.{IsFront};
+ghost use Rattle.page_roff_parts.specs.machine.Verbatim.{IsFront, part_of};
 ghost use Rattle.page_roff_parts.specs.Parts as reading;
-ghost use Rattle.page_roff_parts.specs.machine.Views.{part_of};
 
 use crate::endings::after;
 use crate::fronts::front_len;
@@ -21,7 +20,7 @@ pub struct Unread<'e> {
 
 impl<'e> Model for Unread<'e> {
     ghost use Rattle.std.specs.Prelude.{ℕ, List};
-    ghost use Rattle.page_roff_parts.specs.machine.Brackets.{IsKnown};
+    ghost use Rattle.page_roff_parts.specs.machine.Verbatim.{IsKnown};
 
     ghost Value = { List ℕ };
 

@@ -3,7 +3,7 @@ use Rattle.std.proofs.Common.{◌≡◌, ℕ, ◌==◌, Bool, true, false, List,
 use Rattle.std.proofs.lemmas.Bool.{and_parts, eqb-true}
 use Rattle.page_core_base.specs.Texts.{IsLine, is_no_control, has_no_control}
 use Rattle.page_roff_syntax.specs.declared.quotes.Argument.{Argument}
-use Rattle.page_roff_blocks.proofs.KeepLemmas.{AreSuch}
+use Rattle.page_roff_blocks.proofs.LinePartLemmas.{AreSuch}
 use Rattle.page_roff_values.specs.Values.{arguments_in, lines_in}
 use Rattle.page_roff_values.specs.machine.Texts.{AreTexts}
 use Rattle.page_roff_definitions.specs.Definitions.{with_line, packed}

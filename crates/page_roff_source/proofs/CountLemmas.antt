@@ -7,10 +7,10 @@ use Rattle.page_core_base.specs.declared.limits.TheConstants.{EXPAND, REREAD}
 use Rattle.page_roff_values.specs.Values.{units_of}
 use Rattle.page_roff_blocks.specs.machine.Languages.{Kind, state_of}
 use Rattle.page_roff_blocks.specs.laws.Spent.{Spends}
-use Rattle.page_roff_blocks.proofs.BudgetLemmas.{page_line_bound}
+use Rattle.page_roff_blocks.proofs.LedgerLemmas.{page_line_bound}
 use Rattle.page_roff_blocks.proofs.SpendLemmas.{page_spends}
 use Rattle.page_roff_effects.specs.States.{answer_of, test_outcome, budget_outcome, block_outcome, end_of_block_outcome, Given, says, takes, Memory, PartOutcome, Product, no_product, line_product, lines_of, with_body}
-use Rattle.page_roff_effects.specs.machine.Effects.{effects, turn_answer, expansions_of, tested_after, done_by, done_after, setting_of}
+use Rattle.page_roff_effects.specs.machine.Acting.{effects, turn_answer, expansions_of, tested_after, done_by, done_after, setting_of}
 use Rattle.page_roff_effects.specs.Lines.{leaf_outcome}
 use Rattle.page_roff_effects.specs.Regions.{loop_outcome, collect_outcome, repeats_if, repeats_text, close_outcome, head_outcome, line_outcome, end_outcome, finish_outcome}
 use Rattle.page_roff_effects.specs.laws.Views.{State, after}

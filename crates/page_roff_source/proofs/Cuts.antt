@@ -9,7 +9,7 @@ use Rattle.std.proofs.lemmas.Str.{IsUtf8-drop, IsUtf8-nil, IsCharBoundary-after_
 use Rattle.page_core_base.specs.Bytes.{is_white}
 use Rattle.page_core_base.specs.declared.limits.TheConstants.{LINE}
 use Rattle.page_core_base.specs.Texts.{IsLine}
-pub use Rattle.page_core_escapes.proofs.Characters.{CutsAt, CutsAt-boundary, CutsAt-add, CutsAt-ascii}
+pub use Rattle.page_core_escapes.proofs.Unwinding.{CutsAt, CutsAt-boundary, CutsAt-add, CutsAt-ascii}
 use Rattle.page_roff_syntax.specs.Arguments.{is_blank}
 use Rattle.page_roff_syntax.specs.LineForms.{is_name}
 use Rattle.page_roff_values.specs.machine.Texts.{IsText}

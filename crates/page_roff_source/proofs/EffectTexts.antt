@@ -6,7 +6,7 @@ use Rattle.page_core_base.specs.declared.limits.TheConstants.{BODY}
 use Rattle.page_core_base.specs.Messages.{Message}
 use Rattle.page_core_base.specs.Texts.{IsLine}
 use Rattle.page_roff_syntax.specs.Regions.{Opened, within_limit, macro_name}
-use Rattle.page_roff_blocks.specs.machine.Run.{At}
+use Rattle.page_roff_blocks.specs.machine.Steps.{At}
 use Rattle.page_roff_syntax.specs.declared.region_heads.RegionHead.{RegionHead}
 use Rattle.page_roff_syntax.specs.Arguments.{arguments}
 use Rattle.page_roff_heads.specs.declared.loops.LoopHead.{LoopHead}
@@ -27,13 +27,12 @@ use Rattle.page_roff_values.proofs.GrowLemmas.{finished_front}
 use Rattle.page_roff_values.proofs.LineLemmas.{value_within}
 use Rattle.page_roff_values.proofs.PlainTexts.{nil_text, text_cut, text_at}
 use Rattle.page_roff_values.proofs.ValueTexts.{value_text}
-use Rattle.page_roff_blocks.specs.machine.Budgets.{Budgeted, language}
-use Rattle.page_roff_blocks.specs.machine.Languages.{Kind, page, body, arguments_of, inner, run_page}
-use Rattle.page_roff_blocks.proofs.KeepEffects.{IsKeptAfter, KeepsEffects, page_keeps}
-use Rattle.page_roff_blocks.proofs.KeepLemmas.{AreSuch, IsIfSome, IsLoopHead}
+use Rattle.page_roff_blocks.specs.machine.Languages.{Budgeted, language, Kind, page, body, arguments_of, inner, run_page}
+use Rattle.page_roff_blocks.proofs.LedgerLemmas.{IsKeptAfter, KeepsEffects, page_keeps}
+use Rattle.page_roff_blocks.proofs.LinePartLemmas.{AreSuch, IsIfSome, IsLoopHead}
 use Rattle.page_roff_effects.specs.Lines.{called_body, request_command, command_or, command_of, copies, call_if, ControlLine, rest_of, rest_column, does, command_outcome, control_outcome, control_line, form_outcome, leaf_outcome}
 use Rattle.page_roff_effects.specs.States.{answer_of, test_outcome, budget_outcome, block_outcome, end_of_block_outcome, Memory, first_memory, TextSetting, surroundings, counted, Product, no_product, line_product, call_product, loop_product, lines_of, Given, says, takes, PartOutcome, nothing}
-use Rattle.page_roff_effects.specs.machine.Effects.{effects, setting_of, turn_answer, tested_after, done_by, done_after}
+use Rattle.page_roff_effects.specs.machine.Acting.{effects, setting_of, turn_answer, tested_after, done_by, done_after}
 use Rattle.page_roff_definitions.specs.Definitions.{with_line, packed}
 use Rattle.page_roff_effects.specs.Regions.{first_body, body_begun, head_outcome, longer_if, longer, body_outcome, kind_outcome, line_outcome, macro_definition, body_freed, end_outcome, finish_region, finish_outcome, longer_if_some, loop_outcome, collect_outcome, repeats_text, close_outcome}
 use Rattle.page_roff_effects.specs.laws.Views.{State, after}

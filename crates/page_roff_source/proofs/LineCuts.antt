@@ -18,7 +18,7 @@ use Rattle.page_roff_heads.specs.Conditions.{condition_len, placed, begins_pair,
 use Rattle.page_roff_heads.specs.declared.loops.LoopRead.{LoopRead}
 use Rattle.page_roff_heads.specs.Heads.{guards, guarded_of, conditional_of, end_place, block_end_of, first_of, loop_of}
 use Rattle.page_roff_values.proofs.GrowLemmas.{HasNoneBefore}
-use Rattle.page_roff_effects.proofs.ControlLemmas.{uncommented_front, uncommented_short}
+use Rattle.page_roff_effects.proofs.FreeLemmas.{uncommented_front, uncommented_short}
 use Rattle.page_roff_source.proofs.Cuts.{CutsAt, CutsAt-boundary, CutsAt-add, start_cut, past_ascii, IsStop, stop_cut, after_ascii, prefix_cut, prefix_stop, byte_low, blank_low, white_low, name_low, nil_line, line_cut}
 use Rattle.page_roff_source.proofs.HeadCuts.{condition_cut}
 

@@ -2,21 +2,17 @@
 use Rattle.std.proofs.Common.{◌≡◌, ℕ, ◌+◌, Bool, true, false, cond, List, [], ◌∷◌, ◌++◌, length, map, Option, Some, None, option_map, refl, sym, ap, ◌∙◌, append_assoc, append-nil, subst, arith}
 use Rattle.page_roff_syntax.specs.Regions.{is_ending, Opened}
 use Rattle.page_roff_blocks.specs.Forest.{Levels, SourcePlace}
-use Rattle.page_roff_blocks.specs.machine.Run.{Meaning, At}
+use Rattle.page_roff_blocks.specs.machine.Steps.{Meaning, At, step_inside, step_from, step, step_lines, after_head, each_line}
 use Rattle.page_roff_blocks.specs.machine.Steps as steps
-use Rattle.page_roff_blocks.specs.machine.Steps.{step_inside, step_from, step, step_lines, after_head, each_line}
 use Rattle.page_core_base.specs.declared.limits.TheConstants.{CALLS, REREAD}
 use Rattle.page_roff_values.specs.Values.{units_of}
-use Rattle.page_roff_blocks.specs.machine.Budgets.{Budgeted, Effects, language, meaning, begin_line, read_line, end_line}
-use Rattle.page_roff_blocks.specs.machine.Languages.{page, meaning_by, meaning_at, run_page, run_page_lines}
-use Rattle.page_roff_blocks.specs.machine.Machine.{at_page}
-use Rattle.page_roff_blocks.specs.machine.Fronts.{over}
-use Rattle.page_roff_blocks.proofs.FrontLemmas.{rest_front}
-use Rattle.page_roff_blocks.proofs.MachineLemmas.{page_law}
-use Rattle.page_roff_effects.specs.machine.Effects.{effects, in_front}
+use Rattle.page_roff_blocks.specs.machine.Languages.{Budgeted, Effects, language, meaning, begin_line, read_line, end_line, page, meaning_by, meaning_at, run_page, run_page_lines}
+use Rattle.page_roff_blocks.specs.machine.Machine.{at_page, over}
+use Rattle.page_roff_blocks.proofs.MachineLemmas.{rest_front, page_law}
+use Rattle.page_roff_effects.specs.machine.Acting.{effects, in_front}
 use Rattle.page_roff_effects.specs.laws.Views.{State}
 use Rattle.page_roff_effects.specs.States.{Given, says, Memory, numbered}
-use Rattle.page_roff_effects.proofs.GivenLemmas.{is_front}
+use Rattle.page_roff_effects.proofs.CountLemmas.{is_front}
 use Rattle.page_roff_source.specs.Runs.{RoffEdge, SourceLine, run_all, given, done}
 use Rattle.page_roff_source.specs.machine.Taking.{before_line, run_line, run_begun, line_given, line_done}
 use Rattle.page_roff_source.specs.laws.Views.{line_begun}

@@ -16,12 +16,11 @@ use Rattle.page_roff_blocks.specs.declared.line_parts.Head.{Head}
 use Rattle.page_roff_blocks.specs.declared.line_parts.Opening.{Opening}
 use Rattle.page_roff_blocks.specs.declared.line_parts.Opening.TheVariants as openings
 use Rattle.page_roff_blocks.specs.Parts.{loop_body, whole_opening, whole_line_part, part_of, ends_first, parts, line_parts, blocks_after, before_end, left_by, left_in, left_of, len_before, len_of, some_text, text_before, loop_text, unless_empty, first_text, keyword_in, rest_text, head_line_part, loop_part_if, end_part, cut_part, plain_part, raw_rest, keyword_part, form_part, written_part}
-use Rattle.page_roff_blocks.specs.machine.LinePlaces.{IsEndOf}
-use Rattle.page_roff_blocks.proofs.EndLemmas.{written_ends, end_further}
+use Rattle.page_roff_blocks.specs.machine.Steps.{IsEndOf}
+use Rattle.page_roff_blocks.proofs.LinePartLemmas.{written_ends, end_further, IsIfSome, IsLoopHead, IsOpening, AreLeaves, HasLeaves, HasLoopTexts}
 use Rattle.page_roff_syntax.specs.Requests.{request_of}
 use Rattle.page_roff_syntax.specs.declared.requests.Request.{Request}
 use Rattle.page_roff_syntax.specs.declared.requests.Request.TheVariants as requests
-use Rattle.page_roff_blocks.proofs.KeepLemmas.{IsIfSome, IsLoopHead, IsOpening, AreLeaves, HasLeaves, HasLoopTexts}
 use Rattle.page_roff_source.proofs.Cuts.{CutsAt, start_cut, end_cut, line_cut}
 use Rattle.page_roff_source.proofs.LineCuts.{commented_cut, IsLineIfSome, guarded_line, conditional_line, IsLoopRead, loop_line, AreLinesIfSome, block_end_lines, control_rest}
 

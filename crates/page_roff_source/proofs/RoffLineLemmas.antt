@@ -8,11 +8,9 @@ use Rattle.page_core_base.specs.Messages.{Message}
 use Rattle.page_core_base.specs.declared.page_settings.Output.{Output}
 use Rattle.page_roff_blocks.specs.laws.Views.{PlaceFits, at_line}
 use Rattle.page_roff_blocks.specs.Forest.{SourcePlace, outside, first_place}
-use Rattle.page_roff_blocks.specs.machine.Run.{At}
-use Rattle.page_roff_blocks.specs.machine.Languages.{run_page}
-use Rattle.page_roff_blocks.specs.machine.Counting.{Budget}
+use Rattle.page_roff_blocks.specs.machine.Steps.{At}
+use Rattle.page_roff_blocks.specs.machine.Languages.{run_page, Budget, Budgeted}
 use Rattle.page_roff_blocks.specs.machine.Machine.{next}
-use Rattle.page_roff_blocks.specs.machine.Budgets.{Budgeted}
 use Rattle.page_roff_stack.specs.machine.Stacks.{is_nothing}
 use Rattle.page_roff_stack.specs.machine.Stacks as stack
 use Rattle.page_roff_effects.specs.laws.Views.{MemoryFits, State}

@@ -4,14 +4,12 @@ use Rattle.page_roff_blocks.specs.Parts.{line_parts}
 use Rattle.page_roff_syntax.specs.Regions.{is_ending, Opened}
 use Rattle.page_roff_blocks.specs.Forest.{Levels}
 use Rattle.page_roff_blocks.specs.laws.Views.{at_line}
-use Rattle.page_roff_blocks.specs.machine.Run.{Meaning, At}
-use Rattle.page_roff_blocks.specs.machine.Steps.{begin_line, step_inside, step_from, step, step_lines}
-use Rattle.page_roff_blocks.proofs.RoomLemmas.{line_parts_room, step_room}
+use Rattle.page_roff_blocks.specs.machine.Steps.{Meaning, At, begin_line, step_inside, step_from, step, step_lines}
+use Rattle.page_roff_blocks.proofs.LinePartLemmas.{line_parts_room, step_room}
 use Rattle.page_roff_values.specs.Values.{units_of}
-use Rattle.page_roff_blocks.specs.machine.Languages.{page, meaning_at, run_page}
+use Rattle.page_roff_blocks.specs.machine.Languages.{page, meaning_at, run_page, language}
 use Rattle.page_core_base.specs.declared.limits.TheConstants.{CALLS}
-use Rattle.page_roff_blocks.specs.machine.Budgets.{language}
-use Rattle.page_roff_effects.specs.machine.Effects.{effects}
+use Rattle.page_roff_effects.specs.machine.Acting.{effects}
 use Rattle.page_roff_source.specs.Runs.{RoffEdge, SourceLine}
 use Rattle.page_roff_source.specs.machine.Taking.{before_line, run_line, line_done}
 

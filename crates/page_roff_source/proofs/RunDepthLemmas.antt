@@ -5,16 +5,14 @@ use Rattle.page_core_base.specs.Limits.{CALLS}
 use Rattle.page_roff_heads.specs.Conditions.{condition_of}
 use Rattle.page_roff_blocks.specs.Forest.{first_place}
 use Rattle.page_roff_blocks.specs.Parts.{loop_text}
-use Rattle.page_roff_blocks.specs.machine.Run as old
-use Rattle.page_roff_blocks.specs.machine.Run.{Meaning}
-use Rattle.page_roff_blocks.specs.machine.Steps.{step, step_lines, each_line}
+use Rattle.page_roff_blocks.specs.machine.Steps as old
+use Rattle.page_roff_blocks.specs.machine.Steps.{Meaning, step, step_lines, each_line}
 use Rattle.page_roff_blocks.specs.machine.Languages as langs
-use Rattle.page_roff_blocks.specs.machine.Languages.{Kind, page, body, inner, arguments_of, is_some, state_of, Language, TURNS, run_if, finish_at}
-use Rattle.page_roff_blocks.specs.machine.Budgets as budgets
-use Rattle.page_roff_blocks.specs.machine.Budgets.{Effects, language, with_rest, charge, charge_by, done_with, closed_with, turn_by, unopened_by, collect_some}
-use Rattle.page_roff_effects.specs.machine.Effects as effs
+use Rattle.page_roff_blocks.specs.machine.Languages.{Kind, page, body, inner, arguments_of, is_some, state_of, Language, TURNS, run_if, finish_at, Effects, language, with_rest, charge, charge_by, done_with, closed_with, turn_by, unopened_by, collect_some}
+use Rattle.page_roff_blocks.specs.machine.Languages as budgets
+use Rattle.page_roff_effects.specs.machine.Acting as effs
 use Rattle.page_roff_effects.specs.States.{end_of_block_outcome, Memory, PartOutcome, Product, no_product, line_product, call_product, loop_product}
-use Rattle.page_roff_effects.specs.machine.Effects.{effects, done_after, setting_of, tested_after}
+use Rattle.page_roff_effects.specs.machine.Acting.{effects, done_after, setting_of, tested_after}
 use Rattle.page_roff_effects.specs.Regions.{close_outcome, repeats_text, finish_outcome, line_outcome, end_outcome}
 use Rattle.page_roff_effects.specs.States as states
 use Rattle.page_roff_effects.specs.laws.Views as states_laws

@@ -15,11 +15,10 @@ use Rattle.page_roff_blocks.specs.Forest as forests
 use Rattle.page_roff_blocks.specs.laws.Views as levels
 use Rattle.page_roff_blocks.specs.laws.Views.{BlockCursor, at_line, after_part, guarded_by, reached, reached_in, reached_from, reached_if}
 use Rattle.page_roff_blocks.specs.Parts.{loop_text, line_parts}
-use Rattle.page_roff_blocks.specs.machine.Run as old
-use Rattle.page_roff_blocks.specs.machine.Run.{Meaning}
+use Rattle.page_roff_blocks.specs.machine.Steps as old
+use Rattle.page_roff_blocks.specs.machine.Steps.{Meaning, met, step_leaf, step_guard, guard_met, guard_with, step_block, block_met, opening_met, block_with, step_loop, step_end, step_parts, step_inside, step_from, begin_line, collect_if, each_line}
 use Rattle.page_roff_blocks.specs.machine.Steps as steps
-use Rattle.page_roff_blocks.specs.machine.Steps.{met, step_leaf, step_guard, guard_met, guard_with, step_block, block_met, opening_met, block_with, step_loop, step_end, step_parts, step_inside, step_from, begin_line, collect_if, each_line}
-use Rattle.page_roff_blocks.specs.machine.Budgets.{Budgeted}
+use Rattle.page_roff_blocks.specs.machine.Languages.{Budgeted}
 use Rattle.page_roff_syntax.specs.declared.region_heads.RegionHead.{RegionHead}
 use Rattle.page_roff_syntax.specs.Regions.{Opened, opened, end_name, is_ending}
 use Rattle.page_roff_effects.specs.States.{block_outcome, end_of_block_outcome}

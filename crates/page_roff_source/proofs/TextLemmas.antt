@@ -2,8 +2,7 @@
 use Rattle.std.proofs.Common.{◌≡◌, Bool, true, false, List, [], ◌∷◌, Option, Some, None, refl, subst}
 use Rattle.page_core_base.specs.Texts.{TakenLine, IsLine}
 use Rattle.page_roff_values.specs.Values.{units_of}
-use Rattle.page_roff_blocks.specs.machine.Budgets.{language}
-use Rattle.page_roff_blocks.specs.machine.Languages.{run_page}
+use Rattle.page_roff_blocks.specs.machine.Languages.{language, run_page}
 use Rattle.page_roff_effects.specs.machine.Acting.{acting_effects}
 use Rattle.page_roff_effects.specs.States.{Given, says, takes}
 use Rattle.page_roff_machine.specs.Giving.{next_line, after_line}

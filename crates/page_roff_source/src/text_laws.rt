@@ -1,11 +1,10 @@
 //! The law of texts.
 
 ghost use Rattle.std.specs.Prelude.{ℕ, List};
-ghost use Rattle.page_roff_blocks.specs.machine.Run.{At};
-ghost use Rattle.page_roff_effects.specs.machine.Effects.{effects};
+ghost use Rattle.page_roff_blocks.specs.machine.Steps.{At};
+ghost use Rattle.page_roff_effects.specs.machine.Acting.{effects};
 ghost use Rattle.page_roff_effects.specs.laws.Views.{State};
-ghost use Rattle.page_roff_blocks.specs.machine.Budgets.{Budgeted, language};
-ghost use Rattle.page_roff_blocks.specs.machine.Languages.{run_page};
+ghost use Rattle.page_roff_blocks.specs.machine.Languages.{Budgeted, language, run_page};
 ghost use Rattle.page_roff_source.specs.machine.Texts.{AreLines, HoldsTexts, AreGiven};
 
 /// Where each line of a page is UTF-8 of at most `LINE` bytes without a control character but the tab, so is each line that the page gives,

@@ -10,22 +10,16 @@ use Rattle.page_roff_blocks.specs.laws.Views.{ReadsNext, BlockCursor, at_line, a
 use Rattle.page_roff_blocks.specs.declared.block_cursors.Pass.{Pass}
 use Rattle.page_roff_blocks.specs.declared.block_cursors.Pass.TheVariants as passes
 use Rattle.page_roff_syntax.specs.Regions.{Opened}
-use Rattle.page_roff_blocks.specs.machine.LinePlaces.{parts_at, line_end, is_at_end, IsPlaceIn}
-use Rattle.page_roff_blocks.proofs.LinePartLemmas.{line_parts_cons}
-use Rattle.page_roff_blocks.proofs.RoomLemmas.{line_parts_room, enter_room, leave_room}
-use Rattle.page_roff_blocks.specs.machine.Machine.{Frame, at_part}
-use Rattle.page_roff_blocks.specs.machine.Measures.{weight, work_in}
+use Rattle.page_roff_blocks.specs.machine.Steps.{parts_at, line_end, is_at_end, IsPlaceIn}
+use Rattle.page_roff_blocks.proofs.LinePartLemmas.{line_parts_cons, line_parts_room, enter_room, leave_room}
+use Rattle.page_roff_blocks.specs.machine.Machine.{Frame, at_part, weight, work_in}
 use Rattle.page_roff_stack.specs.declared.input_frames.InputFrame.{InputFrame}
 use Rattle.page_roff_stack.specs.declared.source_kinds.SourceKind.{SourceKind}
 use Rattle.page_roff_stack.specs.declared.source_kinds.SourceKind.TheVariants as sources
 use Rattle.page_roff_stack.specs.declared.spans.Span.{Span}
 use Rattle.page_roff_values.specs.Values.{lines_in}
-use Rattle.page_roff_stack.specs.machine.Ahead.{IsAfter, IsAfterIn}
-use Rattle.page_roff_stack.specs.machine.Changes.{past, in_region, next_line, first_line_parts, begins_next, begins_line, ends_with, is_over, HasPart, IfEnters, AreShort, IsBounded}
-use Rattle.page_roff_stack.specs.machine.Held.{span_text, only_line, AreLinesOf, IsSpanIn, IsFirstLine}
-use Rattle.page_roff_stack.specs.machine.InputFrames.{frame_of, IsHeld}
-use Rattle.page_roff_stack.specs.machine.Views.{parts_view, IsNextLine}
-use Rattle.page_roff_stack.proofs.LineLemmas.{span_len, some_line, no_lines}
+use Rattle.page_roff_stack.specs.machine.Stacks.{IsAfter, IsAfterIn, past, in_region, next_line, first_line_parts, begins_next, begins_line, ends_with, is_over, HasPart, IfEnters, AreShort, IsBounded, span_text, only_line, AreLinesOf, IsSpanIn, IsFirstLine, frame_of, IsHeld, parts_view, IsNextLine}
+use Rattle.page_roff_stack.proofs.InputStackLemmas.{span_len, some_line, no_lines}
 
 -- what is held of a source that stands elsewhere
 moved_held : (a : InputFrame) (all : List ℕ) (line : Span) (place : LinePlace) (ahead : Option LinePlace) (lines : Span) (region : Option Opened) (cursor : BlockCursor)

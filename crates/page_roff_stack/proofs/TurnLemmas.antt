@@ -6,20 +6,16 @@ use Rattle.page_core_base.specs.declared.limits.TheConstants.{BODY}
 use Rattle.page_roff_blocks.specs.declared.line_places.LinePlace.{LinePlace}
 use Rattle.page_roff_blocks.specs.laws.Views.{BlockCursor, at_line}
 use Rattle.page_roff_blocks.specs.Forest.{outside}
-use Rattle.page_roff_blocks.specs.machine.LinePlaces.{line_end}
-use Rattle.page_roff_blocks.specs.machine.Machine.{Frame, turned}
-use Rattle.page_roff_blocks.specs.machine.Measures.{work_in}
+use Rattle.page_roff_blocks.specs.machine.Steps.{line_end}
+use Rattle.page_roff_blocks.specs.machine.Machine.{Frame, turned, work_in}
 use Rattle.page_roff_values.specs.Values.{lines_in}
 use Rattle.page_roff_stack.specs.declared.input_frames.InputFrame.{InputFrame}
 use Rattle.page_roff_stack.specs.declared.source_kinds.SourceKind.{SourceKind}
 use Rattle.page_roff_stack.specs.declared.source_kinds.SourceKind.TheVariants as sources
 use Rattle.page_roff_stack.specs.declared.spans.Span.{Span}
 use Rattle.page_roff_stack.specs.declared.turns.Turns.{Turns}
-use Rattle.page_roff_stack.specs.machine.Changes.{in_turn, IsBounded}
-use Rattle.page_roff_stack.specs.machine.Held.{span_text, IsFirstLine, IsSpanIn, IsCut, AreTurns, AreTurnsIn}
-use Rattle.page_roff_stack.specs.machine.InputFrames.{frame_of, IsHeld}
-use Rattle.page_roff_stack.specs.machine.Stacks.{first_text}
-use Rattle.page_roff_stack.proofs.LineLemmas.{lines_short, lines_weight, some_line, span_len}
+use Rattle.page_roff_stack.specs.machine.Stacks.{in_turn, IsBounded, span_text, IsFirstLine, IsSpanIn, IsCut, AreTurns, AreTurnsIn, frame_of, IsHeld, first_text}
+use Rattle.page_roff_stack.proofs.InputStackLemmas.{lines_short, lines_weight, some_line, span_len}
 
 abbrev pub after_begin : Turns → Turns
 after_begin t = record t { left = t.left - 1; begun = true }

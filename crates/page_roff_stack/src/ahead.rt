@@ -3,9 +3,8 @@
 ghost use Rattle.std.specs.Prelude.{◌≡◌, ◌≤◌, length, take, IfSome};
 ghost use Rattle.page_core_base.specs.declared.limits.TheConstants.{LINE};
 ghost use Rattle.page_roff_blocks.specs.laws.Views.{line_part_view, FitsLinePart};
-ghost use Rattle.page_roff_blocks.specs.machine.LinePlaces.{parts_at, IsPlaceIn};
-ghost use Rattle.page_roff_stack.specs.machine.Ahead.{IsAfter, IsAfterIn};
-ghost use Rattle.page_roff_stack.specs.machine.Views.{parts_view};
+ghost use Rattle.page_roff_blocks.specs.machine.Steps.{parts_at, IsPlaceIn};
+ghost use Rattle.page_roff_stack.specs.machine.Stacks.{IsAfter, IsAfterIn, parts_view};
 
 use page_roff_blocks::{LinePart, LinePlace};
 

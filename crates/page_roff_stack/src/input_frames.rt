@@ -6,16 +6,12 @@ ghost use Rattle.page_core_base.specs.Texts.{IsLine};
 ghost use Rattle.page_core_base.specs.declared.limits.TheConstants.{ARGS, BODY, LINE};
 ghost use Rattle.page_roff_blocks.specs.declared.line_parts.LinePart.TheVariants.{Leaf};
 ghost use Rattle.page_roff_blocks.specs.laws.Views.{line_part_view, FitsLinePart, PlaceFits, passed};
-ghost use Rattle.page_roff_blocks.specs.machine.LinePlaces.{opens_block};
+ghost use Rattle.page_roff_blocks.specs.machine.Steps.{opens_block};
 ghost use Rattle.page_roff_syntax.specs.laws.Views.{opened_view, text_view};
 ghost use Rattle.page_roff_blocks.specs.machine.Languages.{arguments_of, page, body};
 ghost use Rattle.page_roff_blocks.specs.machine.Machine.{entered, looped};
 ghost use Rattle.page_roff_values.specs.Values.{arguments_in, lines_in};
-ghost use Rattle.page_roff_stack.specs.machine.Changes.{first_frame, page_at, page_line, page_passed, past, first_region, in_region, next_line, in_turn, first_line_parts, is_page, begins_line, is_over, went, HasPart, IfEnters, MayGo};
-ghost use Rattle.page_roff_stack.specs.machine.Held.{span_text, kind_in, arguments_at, turning_in, AreArgumentsAt, AreLinesOf, IsSpanIn, IsFirstLine, IsCut};
-ghost use Rattle.page_roff_stack.specs.machine.InputFrames.{frame_of, IsHeld};
-ghost use Rattle.page_roff_stack.specs.machine.Stacks.{first_text, turn_in, has_begun};
-ghost use Rattle.page_roff_stack.specs.machine.Views.{parts_view, packed_text, unpacked, IsNextLine};
+ghost use Rattle.page_roff_stack.specs.machine.Stacks.{first_frame, page_at, page_line, page_passed, past, first_region, in_region, next_line, in_turn, first_line_parts, is_page, begins_line, is_over, went, HasPart, IfEnters, MayGo, span_text, kind_in, arguments_at, turning_in, AreArgumentsAt, AreLinesOf, IsSpanIn, IsFirstLine, IsCut, frame_of, IsHeld, first_text, turn_in, has_begun, parts_view, packed_text, unpacked, IsNextLine};
 
 use crate::ahead::{place_past, read_ahead};
 use crate::movements::Movement;

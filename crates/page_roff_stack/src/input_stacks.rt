@@ -10,9 +10,7 @@ ghost use Rattle.page_roff_blocks.specs.laws.Views.{line_part_view, FitsLinePart
 ghost use Rattle.page_roff_syntax.specs.laws.Views.{opened_view, text_view};
 ghost use Rattle.page_roff_blocks.specs.machine.Languages.{arguments_of, is_some};
 ghost use Rattle.page_roff_blocks.specs.machine.Machine.{depth};
-ghost use Rattle.page_roff_stack.specs.machine.Changes.{page_line, page_passed, is_page, went};
-ghost use Rattle.page_roff_stack.specs.machine.Stacks.{first_stack, stack_at, standing_of, with_top, call_of, loop_of, next_around, next_of, part_in, opens_block, is_line, may_end, is_nothing, Suits};
-ghost use Rattle.page_roff_stack.specs.machine.Views.{packed_text, unpacked, next_view, FitsNext};
+ghost use Rattle.page_roff_stack.specs.machine.Stacks.{page_line, page_passed, is_page, went, first_stack, stack_at, standing_of, with_top, call_of, loop_of, next_around, next_of, part_in, opens_block, is_line, may_end, is_nothing, Suits, packed_text, unpacked, next_view, FitsNext};
 
 use crate::input_frames::InputFrame;
 use crate::movements::Movement;

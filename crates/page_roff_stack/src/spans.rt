@@ -1,7 +1,7 @@
 //! Spans of a text.
 
 ghost use Rattle.std.specs.Prelude.{◌≡◌};
-ghost use Rattle.page_roff_stack.specs.machine.Held.{span_text, IsSpanIn};
+ghost use Rattle.page_roff_stack.specs.machine.Stacks.{span_text, IsSpanIn};
 
 /// Where a piece of a text begins, and where it ends.
 #[derive(Clone, Copy)]

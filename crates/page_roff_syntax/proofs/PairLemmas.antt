@@ -8,7 +8,7 @@ use Rattle.std.proofs.lemmas.List.{length-map}
 use Rattle.std.proofs.lemmas.Simd.{length-chunk, length-zip2, get_or-chunk, mask_l-mod}
 use Rattle.std.proofs.lemmas.Bool.Decides.{nat_tests}
 use Rattle.page_roff_syntax.specs.LineForms.{without_comment, begins_comment}
-use Rattle.page_roff_syntax.specs.machine.Pairs.{is_pair, pair_at, LacksPair, LacksPairFrom}
+use Rattle.page_roff_syntax.specs.machine.Closed.{is_pair, pair_at, LacksPair, LacksPairFrom}
 
 -- a line without the pairs that begin a comment
 

@@ -1,7 +1,7 @@
 //! Whether there are pairs of a backslash and another byte in a text.
 
 ghost use Rattle.std.specs.Prelude.{◌≡◌, ◌↔◌, ◌<◌, ◌+◌, false, length, IsTrue};
-ghost use Rattle.page_roff_syntax.specs.machine.Pairs.{is_pair, LacksPair, LacksPairFrom};
+ghost use Rattle.page_roff_syntax.specs.machine.Closed.{is_pair, LacksPair, LacksPairFrom};
 
 use std::simd::prelude::*;
 

@@ -7,8 +7,7 @@ use Rattle.page_roff_parts.specs.declared.parts.Call.{Call}
 use Rattle.page_roff_parts.specs.declared.parts.Part.{Part}
 use Rattle.page_roff_parts.specs.declared.parts.Part.TheVariants.{Copied, Called}
 use Rattle.page_roff_parts.specs.Parts.{parts, parts_up_to}
-use Rattle.page_roff_parts.specs.machine.Fronts.{IsFront, copied_front}
-use Rattle.page_roff_parts.specs.machine.Verbatim.{IsVerbatim}
+use Rattle.page_roff_parts.specs.machine.Verbatim.{IsFront, copied_front, IsVerbatim}
 use Rattle.page_roff_parts.proofs.FrontLemmas.{front_whole, map_is}
 use Rattle.page_roff_values.specs.Values.{Surroundings, NEST, LaidText, TextSoFar, adds, call_at, expanded, finished_len, lay, nothing, put, seq, start, value}
 use Rattle.page_roff_values.specs.machine.Rest.{rest}

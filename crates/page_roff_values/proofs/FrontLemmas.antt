@@ -3,8 +3,8 @@ use Rattle.std.proofs.Common.{◌≡◌, ℕ, ◌+◌, ◌-◌, ◌*◌, ◌≤�
 use Rattle.std.specs.Str.{IsUtf8}
 use Rattle.page_core_base.specs.declared.page_settings.Output.{Output}
 use Rattle.page_core_numbers.specs.Columns.{characters_columns}
-use Rattle.page_core_numbers.specs.machine.Fronts.{Left}
-use Rattle.page_core_numbers.proofs.PrintedLemmas.{printed-same}
+use Rattle.page_core_numbers.specs.machine.Signs.{Left}
+use Rattle.page_core_numbers.proofs.ExpressionLemmas.{printed-same}
 use Rattle.page_roff_values.specs.machine.Views.{units_of_text}
 
 -- the width of a text by that of another one, where the same is left of both

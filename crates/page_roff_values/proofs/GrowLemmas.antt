@@ -15,7 +15,7 @@ use Rattle.page_roff_parts.specs.declared.parts.Part.TheVariants.{Copied, Called
 use Rattle.page_roff_values.specs.Values.{argument_of, Surroundings, register_of, TextSoFar, LaidText, nothing, unless, seq, says, ends, adds, counts, kept, put, lay, charge, value_or, inside, leaves, width, interpolated, call_at, value, start, expanded, NEST, finished_len}
 use Rattle.page_roff_parts.specs.Parts.{plain, after_plain, copies, seen, parts, without_lone}
 use Rattle.page_roff_values.proofs.LineLemmas.{put_all}
-use Rattle.page_roff_parts.proofs.ReadLemmas.{parts_more}
+use Rattle.page_roff_parts.proofs.FrontLemmas.{parts_more}
 
 -- a text begins with another
 abbrev pub Begins : List ℕ → List ℕ → Type 0

@@ -17,7 +17,7 @@ use Rattle.page_roff_values.specs.Values.{argument_of, Surroundings, register_of
 use Rattle.page_roff_parts.specs.Parts.{copies, seen, parts, parts_up_to, without_lone}
 use Rattle.page_roff_values.specs.laws.Views.{IsWithin}
 use Rattle.page_roff_values.proofs.LayLemmas.{seq_end}
-use Rattle.page_roff_parts.proofs.ReadLemmas.{parts_more, plain_part}
+use Rattle.page_roff_parts.proofs.FrontLemmas.{parts_more, plain_part}
 
 unless_within : (b : Bool) (x y : LaidText) → IsWithin x.edge → IsWithin y.edge → IsWithin (unless b x y).edge
 unless_within true x y h k = h

@@ -10,10 +10,10 @@ use Rattle.std.proofs.lemmas.Bool.{eqb-true, ltb-true}
 use Rattle.std.proofs.lemmas.Str.{IsCharBoundary-after_ascii}
 use Rattle.page_core_base.specs.Bytes.{begins_escape}
 use Rattle.page_core_escapes.specs.Lengths as escapes
-use Rattle.page_core_escapes.proofs.Characters.{CutsAt, CutsAt-add, Taken, first_of, character_len-encode, character_len-taken}
+use Rattle.page_core_escapes.proofs.Unwinding.{CutsAt, CutsAt-add, Taken, first_of, character_len-encode, character_len-taken}
 use Rattle.page_core_escapes.proofs.Boundaries.{character_begins, character_ends}
 use Rattle.page_roff_syntax.specs.Delimiters.{character_len, content_len, place_of, width_content_len}
-use Rattle.page_roff_syntax.proofs.DelimiterLemmas.{place_found}
+use Rattle.page_roff_syntax.proofs.ClosedLemmas.{place_found}
 use Rattle.page_roff_parts.specs.declared.parts.Call.{Call}
 use Rattle.page_roff_parts.specs.declared.parts.Call.TheVariants.{String, Register, Width}
 use Rattle.page_roff_parts.specs.declared.parts.Part.{Part}

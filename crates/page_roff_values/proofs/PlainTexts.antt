@@ -9,7 +9,7 @@ use Rattle.std.proofs.lemmas.Bool.{eqb-true}
 use Rattle.std.proofs.lemmas.Str.{IsUtf8-append, IsUtf8-nil, IsUtf8-from_ascii, IsUtf8-take, IsUtf8-drop, IsCharBoundary-before_ascii}
 use Rattle.std.proofs.lemmas.Str.Ascii.{IsAscii-cons, IsAscii-nil}
 use Rattle.page_core_escapes.specs.Lengths as escapes
-use Rattle.page_core_escapes.proofs.Characters.{CutsAt, CutsAt-boundary, CutsAt-ascii, first_of, character_len-encode}
+use Rattle.page_core_escapes.proofs.Unwinding.{CutsAt, CutsAt-boundary, CutsAt-ascii, first_of, character_len-encode}
 use Rattle.page_core_base.specs.Bytes.{begins_escape}
 use Rattle.page_core_base.specs.Texts.{has_no_control, is_no_control}
 use Rattle.page_roff_values.specs.machine.Texts.{IsText}

@@ -9,7 +9,7 @@ use Rattle.page_roff_values.specs.Values.{Surroundings, TextSoFar, nothing, seq,
 use Rattle.page_roff_parts.specs.Parts.{SeenText, seen, parts, parts_up_to}
 use Rattle.page_roff_values.specs.machine.Rest.{rest, room_in, one, size}
 use Rattle.page_roff_values.proofs.LayLemmas.{seq_nothing, seq_assoc}
-use Rattle.page_roff_parts.proofs.ReadLemmas.{parts_more, seen_shorter}
+use Rattle.page_roff_parts.proofs.FrontLemmas.{parts_more, seen_shorter}
 
 -- nothing is left of the innermost text
 pub rest_done : (env : Surroundings) (room : ℕ) (ts : List (List ℕ)) (s : TextSoFar) → s.ended ≡ false → rest env room ([] ∷ ts) s ≡ rest env room ts s

@@ -9,7 +9,7 @@ ghost use Rattle.page_roff_values.specs.Values as laying;
 ghost use Rattle.page_roff_values.specs.laws.Views as laying_laws;
 ghost use Rattle.page_roff_values.specs.machine.Expansions.{outermost, over};
 ghost use Rattle.page_roff_values.specs.machine.Steps.{going_inside, going_outside};
-ghost use Rattle.page_roff_parts.specs.machine.Views.{call_of};
+ghost use Rattle.page_roff_parts.specs.machine.Verbatim.{call_of};
 ghost use Rattle.page_roff_values.specs.machine.Views.{surroundings_of};
 ghost use Rattle.page_roff_values.specs.Values.{units_of};
 

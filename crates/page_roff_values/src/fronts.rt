@@ -2,7 +2,7 @@
 
 ghost use Rattle.std.specs.Prelude.{◌*◌, ◌≤◌, length, IfSome};
 ghost use Rattle.page_core_base.specs.declared.limits.TheConstants.{LINE};
-ghost use Rattle.page_core_numbers.specs.machine.Fronts.{Left, Past};
+ghost use Rattle.page_core_numbers.specs.machine.Signs.{Left, Past};
 
 use page_core_base::Output;
 use page_core_escapes::{Escape, escape};

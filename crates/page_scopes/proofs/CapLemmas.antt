@@ -5,7 +5,7 @@ use Rattle.page_core_base.specs.declared.limits.TheConstants.{COLUMNS, FIELD}
 use Rattle.page_scopes_tree.specs.declared.nestings.Scope.{Scope}
 use Rattle.page_scopes_labels.specs.declared.labels.Label.{Label}
 use Rattle.page_scopes_layout.specs.declared.lists.OpenList.{OpenList}
-use Rattle.page_scopes_phrases.proofs.KeptLemmas.{kept_fits}
+use Rattle.page_scopes_phrases.proofs.NameLemmas.{kept_fits}
 use Rattle.page_scopes_phrases.specs.declared.kept_texts.KeptText.{KeptText}
 use Rattle.page_scopes.specs.laws.Views.{ListsFit, TargetsFit}
 use Rattle.page_scopes.specs.declared.layouts.Kept.{Kept}

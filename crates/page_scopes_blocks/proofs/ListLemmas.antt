@@ -1,12 +1,14 @@
--- The arguments of `Bl` are in its line, and so are the values of its options: helpers of proofs.
-use Rattle.std.proofs.Common.{ℕ, ◌≤◌, List, [], ◌∷◌, length, Option, None, Some, arith, inl, inr, ℤ, pos}
+-- What comes in two parts: helpers of proofs.
+use Rattle.std.proofs.Common.{List, ◌++◌, append_assoc, subst, ℕ, ◌≤◌, [], ◌∷◌, length, Option, None, Some, arith, inl, inr, ℤ, pos}
+use Rattle.page_core_base.specs.laws.Views.{Came}
+use Rattle.page_core_base.specs.Rows.{Item}
 use Rattle.std.specs.Prelude.{int_lt}
 use Rattle.std.proofs.lemmas.Bool.{cases_Bool}
 use Rattle.std.proofs.lemmas.Int.{ints}
 use Rattle.page_scopes_layout.specs.Contexts.{hold}
 use Rattle.page_core_base.specs.declared.limits.TheConstants.{LINE}
 use Rattle.page_roff_syntax.specs.declared.quotes.Argument.{Argument}
-use Rattle.page_sets_lines.proofs.OrderLemmas.{AreArguments, all_arguments}
+use Rattle.page_sets_lines.proofs.ArgumentLaws.{AreArguments, all_arguments}
 use Rattle.page_sets_lines.specs.Lines.{arguments_after}
 use Rattle.page_sets_lines.specs.laws.Sets.{IsArgument, IsArgumentIfGiven}
 use Rattle.page_sets_lines.specs.Blocks.{list_word, no_options, option_read, options_after, with_argument, with_word}
@@ -16,6 +18,14 @@ use Rattle.page_sets_lines.specs.declared.lists.ListOptions.{ListOptions}
 use Rattle.page_sets_lines.specs.declared.lists.ListWord.{ListWord}
 use Rattle.page_sets_lines.specs.declared.lists.ListWord.TheVariants as words
 use Rattle.page_scopes_blocks.specs.laws.Views.{LengthFits}
+
+-- messages, and then what follows them
+pub came_after : {P O : Type 0} (left : P → O → List Item → Type 0) (s t u : O) (notes items : List Item) → Came left s notes t → Came left t items u
+    → Came left s (notes ++ items) u
+came_after left s t u notes items h k = λ plan rest given.
+    k plan rest (h plan (items ++ rest) (subst (λ all. left plan s all) (append_assoc notes items rest) given))
+
+-- ---- The arguments of `Bl` are in its line, and so are the values of its options: helpers of proofs.
 
 pub argument_short : (text : List ℕ) (argument : Argument (List ℕ)) → length text ≤ LINE → IsArgument text argument → length argument.text ≤ LINE
 argument_short text argument short slice = let within = slice.slice.within in omega (arith, within, short)

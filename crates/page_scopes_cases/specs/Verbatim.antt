@@ -6,7 +6,7 @@ use Rattle.page_sets_lines.specs.declared.events.Event.{Event}
 use Rattle.page_core_base.specs.Texts.{TakenLine}
 use Rattle.page_sets_lines.specs.laws.Sets.{AreSlices, AreInOrder}
 use Rattle.page_sets_lines.specs.Lines.{event_at, line_end, line_start}
-use Rattle.page_sets_lines.proofs.LawLemmas.{whole_part}
+use Rattle.page_sets_lines.proofs.ArgumentLaws.{whole_part}
 use Rattle.page_scopes_cases.specs.declared.verbatim.Stage.{Stage}
 use Rattle.page_scopes_cases.specs.declared.verbatim.Stage.TheVariants.{Start, Shown, Ended}
 

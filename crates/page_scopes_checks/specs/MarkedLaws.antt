@@ -7,8 +7,7 @@ use Rattle.page_roff_syntax.specs.declared.quotes.Argument.{Argument}
 use Rattle.page_sets_lines.specs.declared.plain_lines.PlainLine.{PlainLine}
 use Rattle.page_sets_lines.specs.laws.Sets.{HasSlices, AreSlices, AreInOrder}
 use Rattle.page_sets_lines.specs.Lines.{name_end, name_of, is_nameless, arguments_after, plain_line}
-use Rattle.page_sets_lines.proofs.ArgumentLaws.{ArgumentsFrom, all_after, earlier, few_after}
-use Rattle.page_sets_lines.proofs.LawLemmas.{end_within, name_part, line_slices, line_order}
+use Rattle.page_sets_lines.proofs.ArgumentLaws.{ArgumentsFrom, all_after, earlier, few_after, end_within, name_part, line_slices, line_order}
 use Rattle.page_scopes_checks.specs.declared.marked.MarkedPlace.{MarkedPlace}
 use Rattle.page_scopes_checks.specs.declared.marked.MarkedPlace.TheVariants as places
 use Rattle.page_scopes_checks.specs.Marked.{italic_words, quotation, events_from, FitsPlace, macro_place, control_place, place_of, marked_events}

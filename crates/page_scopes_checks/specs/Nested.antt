@@ -10,7 +10,7 @@ use Rattle.page_sets_lines.specs.declared.events.EventKind.TheVariants as kinds
 use Rattle.page_sets_lines.specs.declared.leaves.Leaf.{Leaf}
 use Rattle.page_sets_lines.specs.declared.leaves.Leaf.TheVariants as leaves
 use Rattle.page_scopes_labels.specs.Labels.{label_name}
-use Rattle.page_scopes_tree.specs.machine.Frames.{Tables}
+use Rattle.page_scopes_tree.specs.machine.Stacks.{Tables}
 use Rattle.page_scopes_tree.specs.declared.acts.Act.{Act}
 use Rattle.page_scopes_tree.specs.declared.acts.Act.TheVariants as acts
 use Rattle.page_scopes_checks.specs.declared.nested.Nested.{Nested}

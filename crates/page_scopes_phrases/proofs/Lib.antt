@@ -1,3 +1,1 @@
-pub mod CellLemmas
 pub mod NameLemmas
-pub mod KeptLemmas

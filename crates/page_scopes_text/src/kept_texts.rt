@@ -6,8 +6,7 @@ ghost use Rattle.page_core_base.specs.laws.Views.{CameUpTo};
 ghost use Rattle.page_core_escapes.specs.laws.Views.{begins_word};
 ghost use Rattle.page_scopes_text.specs.Texts.{words_of};
 ghost use Rattle.page_scopes_text.specs.Texts as texts;
-ghost use Rattle.page_scopes_text.specs.machine.Kept.{IsKept, ReadsKept};
-ghost use Rattle.page_scopes_text.specs.machine.Reads.{Fits, Within};
+ghost use Rattle.page_scopes_text.specs.machine.Letters.{IsKept, ReadsKept, Fits, Within};
 
 use crate::words::read_plain;
 use page_core_base::{Font, LINE, PieceOut};

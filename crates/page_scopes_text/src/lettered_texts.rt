@@ -6,9 +6,8 @@ ghost use Rattle.page_core_base.specs.laws.Views.{Came, CameUpTo};
 ghost use Rattle.page_core_escapes.specs.laws.Views.{begins_word};
 ghost use Rattle.page_scopes_text.specs.Texts.{words_of};
 ghost use Rattle.page_scopes_text.specs.Texts as texts;
-ghost use Rattle.page_scopes_text.specs.machine.LetteredTexts.{GivesFront, GoesOn, is_in_font};
-ghost use Rattle.page_scopes_text.specs.machine.Reads.{Fits, Within, first_after, first_items};
-ghost use Rattle.page_scopes_words.specs.machine.RunEnds.{GoesOn as RunGoesOn};
+ghost use Rattle.page_scopes_text.specs.machine.Letters.{GivesFront, GoesOn, is_in_font, Fits, Within, first_after, first_items};
+ghost use Rattle.page_scopes_words.specs.machine.Letters.{GoesOn as RunGoesOn};
 
 use crate::lettered_words::{read_after_blank, read_words};
 use page_core_base::{Font, LINE, PieceOut};

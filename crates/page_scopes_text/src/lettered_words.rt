@@ -8,8 +8,7 @@ ghost use Rattle.page_core_base.specs.declared.cells.Font.TheVariants.{R};
 ghost use Rattle.page_core_escapes.specs.laws.Views.{meaning_view, begins_word, token_view};
 ghost use Rattle.page_core_escapes.specs.Tokens.{escaped, plain};
 ghost use Rattle.page_scopes_text.specs.machine.Letters.{AddsAfterBlank, AddsWord, AddsWords, Grows, ReadsAfterBlank, ReadsFont, ReadsToken, TakesToken};
-ghost use Rattle.page_scopes_words.specs.machine.Letters.{letters_in};
-ghost use Rattle.page_scopes_words.specs.machine.RunEnds.{GoesOn};
+ghost use Rattle.page_scopes_words.specs.machine.Letters.{letters_in, GoesOn};
 
 use page_core_base::{Font, LINE, first_part_len};
 use page_core_escapes::{Escape, Token, begins_word, read_token, short_font};

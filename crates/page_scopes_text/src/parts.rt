@@ -4,7 +4,7 @@ ghost use Rattle.std.specs.Prelude.{◌≡◌, ◌<◌, ◌==◌, false, length}
 ghost use Rattle.page_core_base.specs.laws.Views.{Came, CameUpTo};
 ghost use Rattle.page_core_escapes.specs.Tokens.{is_space, plain};
 ghost use Rattle.page_core_escapes.specs.laws.Views.{token_view};
-ghost use Rattle.page_scopes_text.specs.machine.Parts.{later_items};
+ghost use Rattle.page_scopes_text.specs.machine.Letters.{later_items};
 ghost use Rattle.page_scopes_text.specs.Texts as words;
 
 use page_core_base::{Font, Piece, PieceOut, Place, first_part_len};

@@ -6,7 +6,7 @@ ghost use Rattle.page_core_base.specs.laws.Views.{Came, CameUpTo};
 ghost use Rattle.page_core_escapes.specs.laws.Views.{begins_word};
 ghost use Rattle.page_scopes_text.specs.laws.Views.{spaced_front};
 ghost use Rattle.page_scopes_text.specs.Texts.{words_of};
-ghost use Rattle.page_scopes_text.specs.machine.Reads.{Fits, ReadsSpaced, Within, first_after, first_items};
+ghost use Rattle.page_scopes_text.specs.machine.Letters.{Fits, ReadsSpaced, Within, first_after, first_items};
 ghost use Rattle.page_scopes_text.specs.Texts as texts;
 ghost use Rattle.page_scopes_words.specs.Words.{body_after, indented_pen, at};
 

@@ -4,7 +4,7 @@ ghost use Rattle.std.specs.Prelude.{◌≡◌, ◌≤◌, ◌<◌, ◌+◌, ◌^
 ghost use Rattle.page_core_base.specs.laws.Views.{Came};
 ghost use Rattle.page_core_escapes.specs.Tokens.{plain};
 ghost use Rattle.page_scopes_text.specs.Texts.{words_of};
-ghost use Rattle.page_scopes_text.specs.machine.Reads.{Fits, ReadsPlain, ReadsWord};
+ghost use Rattle.page_scopes_text.specs.machine.Letters.{Fits, ReadsPlain, ReadsWord};
 ghost use Rattle.page_scopes_text.specs.Texts as words;
 ghost use Rattle.page_scopes_words.specs.Words as pens;
 

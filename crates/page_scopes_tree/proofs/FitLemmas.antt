@@ -5,7 +5,7 @@ use Rattle.std.proofs.lemmas.Bool.Decides.{nat_tests}
 use Rattle.std.proofs.lemmas.List.Sums.{prefix_len-le-length}
 use Rattle.page_core_numbers.specs.Expressions.{expression_of}
 use Rattle.page_core_numbers.specs.declared.scales.Scale.TheVariants.{Basic}
-use Rattle.page_scopes_tree.specs.machine.Nestings.{as_node, as_nothing, IsSound}
+use Rattle.page_scopes_tree.specs.machine.Nestings.{as_node, as_nothing, IsSound, Standing, as_leaf}
 use Rattle.page_sets_lines.specs.Blocks.{closed_block}
 use Rattle.page_sets_lines.specs.declared.events.Event.{Event}
 use Rattle.page_sets_lines.specs.declared.events.EventKind.{EventKind}
@@ -21,7 +21,7 @@ use Rattle.page_sets_lines.specs.declared.openers.Closer.TheVariants as closers
 use Rattle.page_scopes_tree.specs.laws.Views.{Step, comes, does}
 use Rattle.page_scopes_tree.specs.Ends.{inside, up_to, line_scopes, up_to_explicit, up_to_paragraph, up_to_margin, opener_ends, closer_ends, kind_ends, act_ends}
 use Rattle.page_scopes_labels.specs.Labels.{is_line, is_enclosure, is_section, is_item, is_list, is_explicit}
-use Rattle.page_scopes_tree.specs.machine.Nests.{standing_by, step_ends, step_standing, scopes_nesting}
+use Rattle.page_scopes_tree.specs.machine.Stacks.{standing_by, step_ends, step_standing, scopes_nesting, Fact, standing, refused}
 use Rattle.page_scopes_tree.specs.Placements.{has_room, in_list, in_headed_list, opened, opener_placement, line_placement, closed, closer_placement, in_line_scope, is_dropped, kind_placement, act_placement, opener_label, is_passed_over}
 use Rattle.page_core_base.specs.declared.limits.TheConstants.{SCOPES}
 use Rattle.page_scopes_tree.specs.declared.acts.Act.{Act}
@@ -196,3 +196,27 @@ step-room skips (does act) n remaining label h = placed-room (is_passed_over ski
 
 pub scopes-sound : IsSound scopes_nesting SCOPES
 scopes-sound = record { fits = step-fits; room = step-room }
+
+-- ---- What becomes of an act that is done: a node, a leaf that is no event to come, or nothing.
+
+-- what holds of each of these
+pub record OfDone (P : Standing Label Fact → Type 0) : Type 0 where
+  pub node : (label : Label) → P (as_node label)
+  pub leaf : (a : Act (Event (List ℕ))) → P (as_leaf (standing a))
+  pub refusal : (obstacle : Obstacle) (a : Act (Event (List ℕ))) → P (as_leaf (refused obstacle a))
+  pub nothing : P as_nothing
+
+module _ (P : Standing Label Fact → Type 0) (k : OfDone P) where
+  placement-standing : (a : Act (Event (List ℕ))) (placement : Placement) → P (standing_by a placement)
+  placement-standing a (placements.Node label) = k.node label
+  placement-standing a placements.Leaf = k.leaf a
+  placement-standing a (placements.Refused obstacle) = k.refusal obstacle a
+  placement-standing a placements.Nothing = k.nothing
+
+  either-standing : (test : Bool) (x : Standing Label Fact) → P x → P (if test then as_nothing else x)
+  either-standing true x h = k.nothing
+  either-standing false x h = h
+
+  pub done-standing : (skips : Bool) (a : Act (Event (List ℕ))) (n : ℕ) (nodes : List Label) → P (step_standing skips (does a) n nodes)
+  done-standing skips a n nodes =
+      either-standing (is_passed_over skips a) (standing_by a (act_placement a n nodes)) (placement-standing a (act_placement a n nodes))

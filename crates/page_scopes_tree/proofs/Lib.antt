@@ -1,11 +1,4 @@
-pub mod MarginLemmas
 pub mod FitLemmas
-pub mod StackLemmas
-pub mod EventLemmas
-pub mod StandingLemmas
 pub mod StepLemmas
 pub mod RunLemmas
 pub mod EdgeLemmas
-pub mod AsideLemmas
-pub mod CutLemmas
-pub mod PartLemmas

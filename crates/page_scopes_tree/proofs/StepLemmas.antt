@@ -5,12 +5,10 @@ use Rattle.page_core_base.specs.Rows.{Item}
 use Rattle.page_scopes_tree.proofs.RunLemmas.{left_labels}
 use Rattle.page_scopes_tree.specs.Ends.{TreeEdge, act_ends}
 use Rattle.page_scopes_tree.specs.laws.Views.{labels, does}
-use Rattle.page_scopes_tree.specs.machine.Machines.{ended_items, ended_state, placed_items, placed_scopes, placed_state}
+use Rattle.page_scopes_tree.specs.machine.Nestings.{ended_items, ended_state, placed_items, placed_scopes, placed_state}
 use Rattle.page_scopes_tree.specs.declared.nestings.Scope.{Scope}
 use Rattle.page_sets_lines.specs.declared.events.Event.{Event}
-use Rattle.page_scopes_tree.specs.machine.Frames.{Tables, framed}
-use Rattle.page_scopes_tree.specs.machine.Nests.{standing_by}
-use Rattle.page_scopes_tree.specs.machine.Stacks.{TakesStep}
+use Rattle.page_scopes_tree.specs.machine.Stacks.{Tables, framed, standing_by, TakesStep}
 use Rattle.page_scopes_tree.specs.Placements.{act_placement, act_skips, is_passed_over}
 use Rattle.page_scopes_tree.specs.declared.acts.Act.{Act}
 use Rattle.page_scopes_labels.specs.declared.labels.Label.{Label}

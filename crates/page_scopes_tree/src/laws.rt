@@ -1,13 +1,12 @@
 //! Laws of scopes, whatever the layout is (man(7)).
 
 ghost use Rattle.std.specs.Prelude.{◌≡◌, ℕ, ◌+◌, ◌*◌, ◌≤◌, Bool, List, ◌++◌, length};
-ghost use Rattle.page_scopes_tree.specs.machine.Forests.{tree};
-ghost use Rattle.page_scopes_tree.specs.machine.Parts.{on, rest_by};
+ghost use Rattle.page_scopes_tree.specs.machine.Nestings.{tree, on, rest_by};
 ghost use Rattle.page_sets_lines.specs.declared.events.Event.{Event};
 ghost use Rattle.page_scopes_tree.specs.laws.Views.{Step};
 ghost use Rattle.page_scopes_tree.specs.Placements.{ScopesEdge};
 ghost use Rattle.page_scopes_tree.specs.laws.Edges.{events_edge, events_items, page_end_items, page_items};
-ghost use Rattle.page_scopes_tree.specs.machine.Nests.{scopes_nesting};
+ghost use Rattle.page_scopes_tree.specs.machine.Stacks.{scopes_nesting};
 ghost use Rattle.page_scopes_labels.specs.declared.labels.Label.{Label};
 
 use crate::Renderer;

@@ -1,7 +1,7 @@
 //! The scopes of a page: what opens them, what ends them, and a stack of them that gives what the block tree gives (man(7)).
 //!
-//! Events nest: some open a node, some end nodes. What such a list gives, whatever the nodes are, is in `specs/machine/Nestings.antt`, `Forests.antt` (the
-//! tree) and `Layouts.antt` (what it gives), with laws for the tables of any language; what follows puts the scopes of man(7) and mdoc(7) in. The block
+//! Events nest: some open a node, some end nodes. What such a list gives, whatever the nodes are, is in `specs/machine/Nestings.antt` (the
+//! tree, and what it gives), with laws for the tables of any language; what follows puts the scopes of man(7) and mdoc(7) in. The block
 //! tree of a page is defined in `page_engine_lines`, and is the same.
 //!
 //! Events of the set of macros come in; which scopes they end and open, with the messages of nesting, goes to a layout (`Renderer`), which
@@ -11,8 +11,8 @@
 //! Proved: `ScopeStack` (`new`, `copy`, `restart`, `apply`, `finish`, `depth`, `state`, `skips`): events give the layout of their block tree, with
 //! the messages of scopes that are broken, lack their end or are too many, for any tables of a layout; at most 64 scopes are open
 //! (`specs/Placements.antt`, `Ends.antt`). `part_law`, `stack_law`, `cut_law`: the block tree of a list of acts, laid out,
-//! is what a stack of open scopes gives act by act, and it may be cut anywhere (`specs/machine/Layouts.antt`, `Parts.antt`). `asides_law`: what
-//! is among the acts and is none, as a message, is a leaf where it comes (`specs/machine/Asides.antt`).
+//! is what a stack of open scopes gives act by act, and it may be cut anywhere. `asides_law`: what is among the acts and is none,
+//! as a message, is a leaf where it comes. All three are said by `specs/machine/Nestings.antt`.
 #![tactic(auto)]
 
 mod acts;

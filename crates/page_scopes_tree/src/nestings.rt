@@ -1,14 +1,9 @@
 //! Laws of the block tree of a page, for the tables of any language (man(7), mdoc(7)): a stack that takes event by event gives what the tree gives.
 
 ghost use Rattle.std.specs.Prelude.{◌≡◌, ℕ, ◌+◌, ◌*◌, ◌≤◌, List, ◌++◌, length};
-ghost use Rattle.page_scopes_tree.specs.machine.Forests.{tree};
-ghost use Rattle.page_scopes_tree.specs.machine.Asides.{act, aside, before_leaf, beside, layout_with, Sides, with_asides};
+ghost use Rattle.page_scopes_tree.specs.machine.Nestings.{tree, act, aside, before_leaf, beside, layout_with, Sides, with_asides, edge, Layout, settled, count_ended, ended_items, placed_items, run, run_items, state_left, step, step_items, IsSound, Nesting, standing_of, on, rest_by};
 ghost use Rattle.page_scopes_tree.specs.Ends.{TreeEdge};
 ghost use Rattle.page_scopes_tree.specs.laws.Views.{labels};
-ghost use Rattle.page_scopes_tree.specs.machine.Layouts.{edge, Layout, settled};
-ghost use Rattle.page_scopes_tree.specs.machine.Machines.{count_ended, ended_items, placed_items, run, run_items, state_left, step, step_items};
-ghost use Rattle.page_scopes_tree.specs.machine.Nestings.{IsSound, Nesting, standing_of};
-ghost use Rattle.page_scopes_tree.specs.machine.Parts.{on, rest_by};
 
 /// An open node, with what it keeps of the state before it.
 #[derive(Drop)]

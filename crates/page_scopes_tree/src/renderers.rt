@@ -3,8 +3,7 @@
 ghost use Rattle.std.specs.Prelude.{◌≡◌, ◌<◌, List, ◌∷◌, ℕ, reverse, vec_capacity, vec_len};
 ghost use Rattle.page_core_base.specs.laws.Views.{Came};
 ghost use Rattle.page_scopes_tree.specs.laws.Views.{TakesAct, act_view};
-ghost use Rattle.page_scopes_tree.specs.machine.Frames.{Tables};
-ghost use Rattle.page_scopes_tree.specs.machine.Stacks.{Keeps};
+ghost use Rattle.page_scopes_tree.specs.machine.Stacks.{Tables, Keeps};
 ghost use Rattle.page_sets_lines.specs.laws.Events.{event_view};
 ghost use Rattle.page_sets_lines.specs.declared.events.Event.{Event};
 

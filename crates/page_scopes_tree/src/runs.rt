@@ -3,7 +3,7 @@
 ghost use Rattle.std.specs.Prelude.{◌≡◌, ◌≤◌, length, reverse};
 ghost use Rattle.std.specs.List.{prefix_len};
 ghost use Rattle.page_scopes_tree.specs.laws.Views.{labels};
-ghost use Rattle.page_scopes_tree.specs.machine.Runs.{run_takes};
+ghost use Rattle.page_scopes_tree.specs.machine.Nestings.{run_takes};
 
 use crate::Scope;
 use page_scopes_labels::{Explicit, Label};

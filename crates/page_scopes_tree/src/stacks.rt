@@ -3,10 +3,8 @@
 ghost use Rattle.std.specs.Prelude.{◌≡◌, ◌≤◌, ◌<◌, ◌+◌, true, ◌∷◌, length, drop, reverse, vec_capacity, vec_len};
 ghost use Rattle.page_core_base.specs.laws.Views.{Came};
 ghost use Rattle.page_scopes_tree.specs.laws.Views.{labels, TakesAct, act_view, comes, does};
-ghost use Rattle.page_scopes_tree.specs.machine.Machines.{ended_items, ended_state, placed_items, placed_scopes, placed_state, step, step_items};
-ghost use Rattle.page_scopes_tree.specs.machine.Frames.{framed};
-ghost use Rattle.page_scopes_tree.specs.machine.Nests.{scopes_nesting};
-ghost use Rattle.page_scopes_tree.specs.machine.Stacks.{Keeps, TakesStep, is_idle, stack_edge, stack_standing, stands_alone};
+ghost use Rattle.page_scopes_tree.specs.machine.Nestings.{ended_items, ended_state, placed_items, placed_scopes, placed_state, step, step_items};
+ghost use Rattle.page_scopes_tree.specs.machine.Stacks.{framed, scopes_nesting, Keeps, TakesStep, is_idle, stack_edge, stack_standing, stands_alone};
 ghost use Rattle.page_sets_lines.specs.laws.Events.{event_view};
 
 use crate::broken::{report_broken, report_obstacle};

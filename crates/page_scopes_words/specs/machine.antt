@@ -1,4 +1,2 @@
 -- The code's own fast ways. Trust needs no reading of them.
 pub mod Letters
-pub mod RunEnds
-pub mod Pens

@@ -4,7 +4,7 @@ ghost use Rattle.std.specs.Prelude.{◌≡◌, ◌<◌, ◌+◌, ◌^◌, [], �
 ghost use Rattle.page_core_escapes.specs.Tokens.{plain, token_bytes};
 ghost use Rattle.page_core_escapes.specs.laws.Views.{token_view};
 ghost use Rattle.page_scopes_words.specs.Words.{body_after, gap_after, has_gap_cells, indented_pen, pen_after, white_after, word_begun, word_ended};
-ghost use Rattle.page_scopes_words.specs.machine.Pens.{resting};
+ghost use Rattle.page_scopes_words.specs.machine.Letters.{resting};
 
 use crate::fonts::{Fonts, fonts_after};
 use crate::settings::Setting;

@@ -2,7 +2,7 @@
 
 ghost use Rattle.std.specs.Prelude.{◌≡◌, ◌≤◌, ◌<◌, ◌+◌, ◌==◌, length, slice_index, if◌then◌else◌, true};
 ghost use Rattle.std.specs.Simd.Lanes.{mask_l, zip2};
-ghost use Rattle.page_scopes_words.specs.machine.RunEnds.{GoesOn, ends_run, ends_run_at};
+ghost use Rattle.page_scopes_words.specs.machine.Letters.{GoesOn, ends_run, ends_run_at};
 
 use std::simd::prelude::*;
 

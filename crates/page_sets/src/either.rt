@@ -34,7 +34,7 @@ impl Either {
 
 impl MacroSet for Either {
     ghost use Rattle.std.specs.Prelude.{◌≤◌, length, drop};
-    ghost use Rattle.page_sets_lines.proofs.NthLemmas.{slices_after};
+    ghost use Rattle.page_sets_lines.proofs.ArgumentLaws.{slices_after};
     ghost use Rattle.page_sets.specs.Mdoc.{either_indent, either_events};
     ghost use Rattle.page_sets.specs.laws.Views.{either_laws};
 

@@ -4,8 +4,7 @@ use Rattle.page_core_base.specs.declared.limits.TheConstants.{LINE}
 use Rattle.page_roff_syntax.specs.declared.quotes.Argument.{Argument}
 use Rattle.page_sets_lines.specs.Lines.{arguments_after, first_of}
 use Rattle.page_sets_lines.specs.laws.Views.{ArgumentFits, GivenFits}
-use Rattle.page_sets_lines.proofs.ArgumentLaws.{ArgumentsFrom, all_after}
-use Rattle.page_sets_lines.proofs.SliceLemmas.{argument_fits}
+use Rattle.page_sets_lines.proofs.ArgumentLaws.{ArgumentsFrom, all_after, argument_fits}
 
 first_fits : (line : List ℕ) (from : ℕ) (arguments : List (Argument (List ℕ))) → length line ≤ LINE → ArgumentsFrom line from arguments
     → GivenFits (first_of arguments)

@@ -1,9 +1,2 @@
 pub mod ArgumentLaws
-pub mod EventLemmas
-pub mod LawLemmas
-pub mod OrderLemmas
-pub mod PrintLemmas
-pub mod QuoteLemmas
 pub mod FitLemmas
-pub mod SliceLemmas
-pub mod NthLemmas

@@ -17,11 +17,7 @@ use Rattle.page_sets_lines.specs.declared.openers.Opener.TheVariants as openers
 use Rattle.page_sets_lines.specs.laws.Views.{BlockOpenerFits}
 use Rattle.page_sets_lines.specs.laws.Sets.{IsPart, IsPartIfGiven, IsArgument, IsArgumentIfGiven, HasSlices, OpensSlices, BlockOpensSlices, BlockClosesSlices}
 use Rattle.page_sets_lines.specs.Lines.{is_unclosed, name_end, name_place}
-use Rattle.page_sets_lines.proofs.EventLemmas.{AllSit, AnyAt, AnyAtIfGiven, open_at}
-use Rattle.page_sets_lines.proofs.LawLemmas.{is_word, nothing_part, rest_part, end_within, name_part, first_slice_after, first_text_after, request_slices}
-use Rattle.page_sets_lines.proofs.OrderLemmas.{AreArguments, all_arguments}
-use Rattle.page_sets_lines.proofs.PrintLemmas.{Prints, both, more_events, no_event, own_alone, own_first}
-use Rattle.page_sets_lines.proofs.SliceLemmas.{kind_fits}
+use Rattle.page_sets_lines.proofs.ArgumentLaws.{AllSit, AnyAt, AnyAtIfGiven, open_at, is_word, nothing_part, rest_part, end_within, name_part, first_slice_after, first_text_after, request_slices, AreArguments, all_arguments, Prints, both, more_events, no_event, own_alone, own_first, kind_fits}
 use Rattle.page_sets_mdoc_lines.specs.declared.blocks.BlockMacro.{BlockMacro}
 use Rattle.page_sets_mdoc_lines.specs.declared.blocks.BlockMacro.TheVariants as blocks
 use Rattle.page_sets_mdoc_lines.specs.declared.blocks.LineMacro.{LineMacro}

@@ -10,9 +10,7 @@ use Rattle.page_sets_mdoc_lines.specs.declared.word_spans.ReadWord.{ReadWord}
 use Rattle.page_sets_mdoc_lines.specs.declared.word_spans.WordSpan.{WordSpan}
 use Rattle.page_sets_mdoc_lines.specs.laws.Views.{arguments_after, is_something, parts_arguments, rest_parts, span_of, FirstIs, IsFirstOf, TakesWord, taken_onto}
 use Rattle.page_sets_mdoc_lines.specs.Parts.{is_closing, is_real, takes_next, word_call, InlineCall, LineParts, call_first, front_len, has_calls, if_parsed, parts, tail_alone, inside, outside}
-use Rattle.page_sets_mdoc_lines.proofs.CursorLemmas.{few_left}
-use Rattle.page_sets_mdoc_lines.proofs.PartLemmas.{none_taken, rest_goes_on, whole, words_taken}
-use Rattle.page_sets_mdoc_lines.proofs.WordSpanLemmas.{closing_calls}
+use Rattle.page_sets_mdoc_lines.proofs.WordSpanLemmas.{few_left, none_taken, rest_goes_on, whole, words_taken, closing_calls}
 
 pub take_first : {A : Type 0} → (n : ℕ) (words : List A) (word : A) (others : List A) → words ≡ word ∷ others → 1 ≤ n
     → take n words ≡ word ∷ take (n - 1) others

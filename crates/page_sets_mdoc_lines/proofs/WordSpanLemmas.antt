@@ -1,19 +1,97 @@
--- A macro's own words, found in one pass: helpers of proofs.
-use Rattle.std.proofs.Common.{◌≡◌, ℕ, ◌+◌, ◌-◌, ◌==◌, Bool, true, false, ◌&&◌, ◌||◌, List, [], ◌∷◌, Option, None, Some, option_map, length, refl, sym, ap, ◌∙◌, arith, inl, inr, if◌then◌else◌}
+-- A text has at most half as many arguments as bytes, and one more: helpers of proofs.
+use Rattle.std.proofs.Common.{◌≡◌, ℕ, zero, suc, ◌+◌, ◌-◌, ◌*◌, ◌≤◌, min, Bool, true, false, List, [], ◌∷◌, length, drop, refl, arith, inl, inr, length-drop, ◌==◌, ◌&&◌, ◌||◌, Option, None, Some, option_map, sym, ap, ◌∙◌, if◌then◌else◌, ◌++◌, take}
+use Rattle.std.proofs.lemmas.Bool.{cases_Bool, and_parts, cond-false, both_ways, false_from_ne_true}
+use Rattle.std.proofs.lemmas.Bool.Decides.{nat_tests}
+use Rattle.page_roff_syntax.specs.Arguments.{is_blank, bare_len, quoted_len, argument_len, first_arguments, arguments, is_quoted}
+use Rattle.page_roff_syntax.proofs.ArgumentLemmas.{bare_some, bare_within}
+use Rattle.page_sets_mdoc_lines.specs.laws.Views.{arguments_after, is_call, is_something, span_of, rest_parts, calls_arguments, parts_arguments}
+use Rattle.std.proofs.lemmas.List.{drop_all}
 use Rattle.std.specs.List.{find, list_all, list_any}
 use Rattle.std.specs.Str.{bytes_eq}
-use Rattle.std.proofs.lemmas.Bool.{cases_Bool, and_parts, cond-false, both_ways}
 use Rattle.std.proofs.lemmas.Slice.Eq.{bytes_eq-Decides}
-use Rattle.std.proofs.lemmas.Bool.Decides.{nat_tests}
 use Rattle.page_roff_syntax.specs.declared.quotes.Argument.{Argument}
-use Rattle.page_roff_syntax.specs.Arguments.{is_quoted}
 use Rattle.page_sets_mdoc_lines.specs.declared.macros.Inline.{Inline}
 use Rattle.page_sets_mdoc_lines.specs.declared.word_spans.WordSpan.{WordSpan}
-use Rattle.page_sets_mdoc_lines.specs.Rows.{row_of, called}
-use Rattle.page_sets_mdoc_lines.specs.Parts.{delimiters, delimiter_of, word_call, word_delimiter, closes, is_closing, is_real, LineParts, parts, part_first, if_parsed, front_len, has_calls}
+use Rattle.page_sets_mdoc_lines.specs.Rows.{row_of, called, table}
+use Rattle.page_sets_mdoc_lines.specs.Parts.{delimiters, delimiter_of, word_call, word_delimiter, closes, is_closing, is_real, LineParts, parts, part_first, if_parsed, front_len, has_calls, takes, taken_first, call_first, tail_alone}
 use Rattle.page_sets_mdoc_lines.specs.declared.delimiters.Delimiter.{Delimiter}
-use Rattle.page_sets_mdoc_lines.specs.laws.Views.{is_call, is_something, span_of}
 use Rattle.std.specs.Prelude.{is_none}
+use Rattle.page_core_base.specs.Messages.{row_in}
+use Rattle.page_sets_mdoc_lines.specs.machine.Cursors.{has_name_len}
+
+-- a text is at its end, or a blank parts it from what came before
+abbrev is_parted : List ℕ → Bool
+is_parted [] = true
+is_parted (byte ∷ bytes) = is_blank byte
+
+one_off : (n b : ℕ) (bs : List ℕ) → drop (1 + n) (b ∷ bs) ≡ drop n bs
+one_off n b bs = let e : 1 + n ≡ suc n = omega arith in rw e refl
+
+two_off : (n b c : ℕ) (cs : List ℕ) → drop (2 + n) (b ∷ c ∷ cs) ≡ drop n cs
+two_off n b c cs = let e : 2 + n ≡ suc (suc n) = omega arith in rw e refl
+
+-- an argument without quotes ends before a blank, or at the end
+bare_parted : (text : List ℕ) → is_parted (drop (bare_len text) text) ≡ true
+bare_parted [] = refl
+bare_parted (b ∷ []) = elim (cases_Bool (is_blank b)) [ inl t ↦ rw t t | inr t ↦ rw t refl ]
+bare_parted (b ∷ c ∷ cs) = grind (arith, two_off, one_off, bare_parted cs, bare_parted (c ∷ cs))
+
+-- the arguments of a text, and of one that begins with a blank
+abbrev IsFew : ℕ → ℕ → List ℕ → Type 0
+IsFew n column text =
+    (2 * length (first_arguments n column text) ≤ length text + 1)
+    × (is_parted text ≡ true → 2 * length (first_arguments n column text) ≤ length text)
+
+past_bare : (n column b : ℕ) (bs : List ℕ) → is_blank b ≡ false
+    → IsFew n column (drop (bare_len (b ∷ bs)) (b ∷ bs))
+    → 2 * length (first_arguments n column (drop (bare_len (b ∷ bs)) (b ∷ bs))) + 2 ≤ length (b ∷ bs) + 1
+past_bare n column b bs t h = grind (arith, nat_tests, bare_parted, length-drop, bare_some, bare_within)
+
+past_quoted : (n column len b : ℕ) (bs : List ℕ) → len ≡ min (length (b ∷ bs)) (quoted_len bs + 2) → IsFew n column (drop len (b ∷ bs))
+    → 2 * length (first_arguments n column (drop len (b ∷ bs))) + 2 ≤ length (b ∷ bs) + 1
+past_quoted n column len b [] e h = grind arith
+past_quoted n column len b (c ∷ cs) e h = grind (arith, length-drop)
+
+past_argument : (n column b : ℕ) (bs : List ℕ) → is_blank b ≡ false
+    → IsFew n column (drop (argument_len (b ∷ bs)) (b ∷ bs))
+    → 2 * length (first_arguments n column (drop (argument_len (b ∷ bs)) (b ∷ bs))) + 2 ≤ length (b ∷ bs) + 1
+past_argument n column b bs t h = grind (arith, past_quoted, past_bare)
+
+is_few : (n column : ℕ) (text : List ℕ) → IsFew n column text
+is_few zero column text = (omega arith, λ h. omega arith)
+is_few (suc n) column [] = (omega arith, λ h. omega arith)
+is_few (suc n) column (b ∷ bs) =
+    elim (cases_Bool (is_blank b)) [
+      | inl t ↦ let few = (is_few n (column + 1) bs).0 in rw t (omega (arith, few), λ h. omega (arith, few))
+      | inr t ↦
+          let len = argument_len (b ∷ bs) in
+          let few = past_argument n (column + len) b bs t (is_few n (column + len) (drop len (b ∷ bs))) in
+          rw t (omega (arith, few), λ h. let no : ⊥ = cc in absurd no)
+    ]
+
+few_arguments : (column : ℕ) (text : List ℕ) → 2 * length (arguments column text) ≤ length text + 1
+unfolding arguments
+few_arguments column text = (is_few (length text) column text).0
+
+pub few_arguments_after : (text : List ℕ) (start : ℕ) → 2 * length (arguments_after start text) ≤ length text - start + 1
+few_arguments_after text start = omega (arith, few_arguments (start + 1) (drop start text), length-drop start text)
+
+-- ---- A cursor, one argument further on: helpers of proofs.
+
+no_arguments : (column : ℕ) (text : List ℕ) → text ≡ [] → arguments column text ≡ []
+unfolding arguments
+no_arguments column text e = rw e refl
+
+at_end : (text : List ℕ) → arguments_after (length text) text ≡ []
+at_end text = no_arguments (length text + 1) (drop (length text) text) (drop_all (length text) text (omega arith))
+
+pub none_at : (text : List ℕ) (start : ℕ) → start ≡ length text → arguments_after start text ≡ []
+none_at text start e = rw e (at_end text)
+
+pub few_left : (text : List ℕ) (start : ℕ) → length text ≤ 65536 → length (arguments_after start text) ≤ 65536
+few_left text start h = omega (arith, few_arguments_after text start)
+
+-- ---- A macro's own words, found in one pass: helpers of proofs.
 
 closing_by : (closing others : Bool) (n : ℕ) → others ≡ (n == 0) → (closing && others) ≡ ((if (n == 0) && closing then 0 else 1 + n) == 0)
 closing_by true true n h = rw (← h) refl
@@ -299,3 +377,105 @@ closing_real word h = real_by (word_delimiter word) h
 pub pass_is : (parsed : Bool) (arguments : List (Argument (List ℕ)))
     → passed is_closing (is_call parsed) is_real no_words arguments ≡ span_of (parts None parsed arguments)
 pass_is parsed arguments = grind (arith, passed_is, is_call, closing_calls, closing_real, span_is)
+
+-- ---- The words of a macro, and what comes after them in its line: helpers of proofs.
+
+words_by : (word : Argument (List ℕ)) (words : List (Argument (List ℕ))) (p : LineParts) (begun : Inline → LineParts) (call : Option Inline)
+    → take (length p.words) words ≡ p.words
+    → take (length (part_first call word p begun).words) (word ∷ words) ≡ (part_first call word p begun).words
+words_by word words p begun None h = ap (λ ws. word ∷ ws) h
+words_by word words p begun (Some inline) h = refl
+
+pub words_taken : (parsed : Bool) (arguments : List (Argument (List ℕ)))
+    → take (length (parts None parsed arguments).words) arguments ≡ (parts None parsed arguments).words
+words_taken parsed [] = refl
+words_taken parsed (word ∷ words) = grind (arith, words_by, words_taken parsed words)
+
+-- at the end of its words a macro's line goes on with the next call, or with the last delimiters
+rest_tail : (arguments : List (Argument (List ℕ))) → list_all is_closing arguments ≡ true → parts None true arguments ≡ rest_parts (tail_alone arguments)
+rest_tail [] h = refl
+rest_tail (word ∷ words) h = rw h refl
+
+rest_by : (parsed : Bool) (word : Argument (List ℕ)) (words : List (Argument (List ℕ))) → list_all is_closing (word ∷ words) ≡ false
+    → (call : Option Inline) → if_parsed parsed (word_call word) ≡ call
+    → parts None true (drop (length (parts None parsed words).words) words) ≡ rest_parts (parts None parsed words)
+    → parts None true (drop (length (part_first call word (parts None parsed words) (λ inline. parts (Some inline) true words)).words) (word ∷ words))
+    ≡ rest_parts (part_first call word (parts None parsed words) (λ inline. parts (Some inline) true words))
+rest_by parsed word words n None e h = h
+rest_by true word words n (Some inline) e h = let c : word_call word ≡ Some inline = e in rw (n, c) refl
+rest_by false word words n (Some inline) e h = let no_call : ⊥ = cc in absurd no_call
+
+pub rest_goes_on : (parsed : Bool) (arguments : List (Argument (List ℕ)))
+    → parts None true (drop (length (parts None parsed arguments).words) arguments) ≡ rest_parts (parts None parsed arguments)
+rest_goes_on parsed [] = refl
+rest_goes_on parsed (word ∷ words) = grind (arith, rest_tail, rest_by, rest_goes_on parsed words)
+
+-- ---- each argument once
+
+joined : (xs ys zs : List (Argument (List ℕ))) → (xs ++ ys) ++ zs ≡ xs ++ (ys ++ zs)
+joined [] ys zs = refl
+joined (x ∷ xs) ys zs = ap (λ l. x ∷ l) (joined xs ys zs)
+
+-- where no macro has just begun nothing is taken
+none_by : (word : Argument (List ℕ)) (p : LineParts) (begun : Inline → LineParts) (call : Option Inline) → p.taken ≡ None
+    → (part_first call word p begun).taken ≡ None
+none_by word p begun None h = h
+none_by word p begun (Some inline) h = refl
+
+pub none_taken : (parsed : Bool) (arguments : List (Argument (List ℕ))) → (parts None parsed arguments).taken ≡ None
+none_taken parsed [] = refl
+none_taken parsed (word ∷ words) = grind (arith, none_by, none_taken parsed words)
+
+abbrev after_taken : LineParts → List (Argument (List ℕ))
+after_taken p = p.words ++ (calls_arguments p.calls ++ p.tail)
+
+all_taken : (p : LineParts) (arguments : List (Argument (List ℕ))) → p.taken ≡ None → parts_arguments p ≡ arguments → after_taken p ≡ arguments
+all_taken p arguments n h = rw n at h
+
+whole_taken : (word : Argument (List ℕ)) (words : List (Argument (List ℕ))) (p : LineParts) → p.taken ≡ None → parts_arguments p ≡ words
+    → parts_arguments (taken_first word p) ≡ word ∷ words
+whole_taken word words p n h = ap (λ l. word ∷ l) (all_taken p words n h)
+
+whole_call : (inline : Inline) (word : Argument (List ℕ)) (words : List (Argument (List ℕ))) (p : LineParts) → parts_arguments p ≡ words
+    → parts_arguments (call_first inline word p) ≡ word ∷ words
+whole_call inline word words p h = grind (arith, joined)
+
+whole_by : (word : Argument (List ℕ)) (words : List (Argument (List ℕ))) (p : LineParts) (begun : Inline → LineParts) (call : Option Inline)
+    → p.taken ≡ None → parts_arguments p ≡ words → ((inline : Inline) → parts_arguments (begun inline) ≡ words)
+    → parts_arguments (part_first call word p begun) ≡ word ∷ words
+whole_by word words p begun None n h m = rw n (ap (λ l. word ∷ l) (all_taken p words n h))
+whole_by word words p begun (Some inline) n h m = whole_call inline word words (begun inline) (m inline)
+
+pub whole : (begun : Option Inline) (parsed : Bool) (arguments : List (Argument (List ℕ))) → parts_arguments (parts begun parsed arguments) ≡ arguments
+whole begun parsed [] = refl
+whole begun parsed (word ∷ words) =
+    elim (cases_Bool (takes begun word)) [
+      | inl s ↦ rw s (whole_taken word words (parts None parsed words) (none_taken parsed words) (whole None parsed words))
+      | inr s ↦
+          elim (cases_Bool (list_all is_closing (word ∷ words))) [
+            | inl t ↦ rw (s, t) refl
+            | inr t ↦
+                rw (s, t) (whole_by word words (parts None parsed words) (λ inline. parts (Some inline) true words) (if_parsed parsed (word_call word))
+                (none_taken parsed words) (whole None parsed words) (λ inline. whole (Some inline) true words))
+          ]
+    ]
+
+-- ---- Names of macros have two or three letters: no other text has a row in the table.
+
+none_of_len : {V : Type 0} (rows : List (List ℕ × V)) (name : List ℕ) → list_all (λ row. has_name_len row.0) rows ≡ true → has_name_len name ≡ false
+    → row_in rows name ≡ None
+none_of_len [] name all other = refl
+none_of_len (row ∷ rows) name all other =
+    let parts = and_parts (has_name_len row.0) (list_all (λ row. has_name_len row.0) rows) all in
+    let differs = false_from_ne_true (bytes_eq row.0 name) (λ same.
+    let one : has_name_len row.0 ≡ has_name_len name = ap has_name_len ((bytes_eq-Decides row.0 name).0 same) in
+    let own : has_name_len row.0 ≡ true = parts.0 in
+    grind (arith, one, own, other)) in
+    cond-false _ _ _ differs ∙ none_of_len rows name parts.1 other
+
+table_len : list_all (λ row. has_name_len row.0) table ≡ true
+table_len = refl
+
+pub no_row : (name : List ℕ) → has_name_len name ≡ false → row_of name ≡ None
+unfolding row_of
+no_row name other = none_of_len table name table_len other

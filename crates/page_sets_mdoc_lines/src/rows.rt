@@ -3,7 +3,7 @@
 
 ghost use Rattle.std.specs.Prelude.{◌≡◌};
 ghost use Rattle.page_sets_mdoc_lines.specs.Rows as rows;
-ghost use Rattle.page_sets_mdoc_lines.specs.machine.NameLengths.{has_name_len};
+ghost use Rattle.page_sets_mdoc_lines.specs.machine.Cursors.{has_name_len};
 
 use crate::blocks::{BlockMacro, LineMacro, Sentence};
 use crate::macros::{Defaulted, Inline, Pair, System};

@@ -1,5 +1,2 @@
 pub mod WordPrintLemmas
 pub mod MacroPrintLemmas
-pub mod SentenceLemmas
-pub mod SynopsisLemmas
-pub mod ReadLemmas

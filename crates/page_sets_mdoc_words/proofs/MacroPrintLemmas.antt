@@ -1,5 +1,5 @@
 -- The events of a macro that can be among words: what holds of each; they are in the line's order, and few. Helpers of proofs.
-use Rattle.std.proofs.Common.{◌≡◌, ℕ, ◌+◌, ◌≤◌, Bool, true, false, List, [], ◌∷◌, ◌++◌, take, drop, refl, arith, Option, None, Some, if◌then◌else◌}
+use Rattle.std.proofs.Common.{◌≡◌, ℕ, ◌+◌, ◌≤◌, Bool, true, false, List, [], ◌∷◌, ◌++◌, take, drop, refl, arith, Option, None, Some, if◌then◌else◌, Bor}
 use Rattle.std.specs.List.{list_any}
 use Rattle.page_core_base.specs.declared.cells.Font.TheVariants.{R, B, I}
 use Rattle.page_core_base.specs.declared.places.Place.{Place}
@@ -7,8 +7,7 @@ use Rattle.page_roff_syntax.specs.declared.quotes.Argument.{Argument}
 use Rattle.page_sets_lines.specs.declared.events.Event.{Event}
 use Rattle.page_sets_lines.specs.declared.line_steps.SynopsisStep.TheVariants.{Break}
 use Rattle.page_sets_lines.specs.laws.Sets.{IsArgumentIfGiven, IsPart}
-use Rattle.page_sets_lines.proofs.EventLemmas.{AllSit, AllSit-drop, AllSit-take, AnyAt}
-use Rattle.page_sets_lines.proofs.LawLemmas.{is_word}
+use Rattle.page_sets_lines.proofs.ArgumentLaws.{AllSit, AllSit-drop, AllSit-take, AnyAt, is_word, Prints, both, either, first_taken, more_events, own_first, parted, word_first, word_passed}
 use Rattle.page_sets_mdoc_lines.specs.declared.macros.Inline.{Inline}
 use Rattle.page_sets_mdoc_lines.specs.declared.macros.Inline.TheVariants as inlines
 use Rattle.page_sets_mdoc_lines.specs.declared.macros.Pair.{Pair}
@@ -17,8 +16,8 @@ use Rattle.page_sets_mdoc_lines.specs.Parts.{is_closing, is_real, front_len}
 use Rattle.page_sets_mdoc_lines.specs.laws.Views.{as_list}
 use Rattle.page_sets_mdoc_words.specs.Inlines.{printed, author, closed, default_word, empty_macro, function, inline_events, link, lone, lone_dash, manual_name, missing_quote, opened, prefix, refused, with_words}
 use Rattle.page_sets_mdoc_words.specs.Sentences.{after_words, before_words, framed, placed_events}
-use Rattle.page_sets_lines.proofs.PrintLemmas.{Prints, both, either, first_taken, more_events, own_first, parted, word_first, word_passed}
 use Rattle.page_sets_mdoc_words.proofs.WordPrintLemmas as prints
+use Rattle.page_roff_syntax.specs.laws.Views.{argument_view}
 
 -- the word that a macro takes, and its other words
 abbrev pub own_arguments : Option (Argument (List ℕ)) → List (Argument (List ℕ)) → List (Argument (List ℕ))
@@ -170,3 +169,10 @@ module _ (line : List ℕ) (IsSo : Event (List ℕ) → Type 0) (place : Place) 
       → Prints IsSo 2 (own_arguments taken words) (placed_events false place name inline taken words follows)
   called_prints name inlines.Declaration taken words follows n h = declared_prints name taken words follows (list_any is_real words) refl n h
   called_prints name inline taken words follows n h = inline_prints name inline taken words follows n h
+
+-- ---- A word that was read, and those after it: helpers of proofs.
+
+-- the words that are left where one was read, if there was one more
+abbrev pub read_onto : Option (Argument (Bor (List ℕ))) → List (Argument (List ℕ)) → List (Argument (List ℕ))
+read_onto None others = []
+read_onto (Some word) others = argument_view word ∷ others

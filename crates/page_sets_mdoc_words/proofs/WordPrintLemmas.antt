@@ -1,5 +1,5 @@
 -- The words of a macro: what holds of each of their events; they are in the line's order, and few. Helpers of proofs.
-use Rattle.std.proofs.Common.{◌≡◌, ℕ, ◌+◌, Bool, true, false, List, [], ◌∷◌, refl, arith, inl, inr, Option, None, Some}
+use Rattle.std.proofs.Common.{◌≡◌, ℕ, ◌+◌, Bool, true, false, List, [], ◌∷◌, refl, arith, inl, inr, Option, None, Some, ◌++◌, if◌then◌else◌, append-nil}
 use Rattle.std.proofs.lemmas.Bool.{cases_Bool}
 use Rattle.page_core_base.specs.declared.cells.Font.{Font}
 use Rattle.page_core_base.specs.declared.cells.Font.TheVariants.{B, I}
@@ -7,20 +7,18 @@ use Rattle.page_core_base.specs.declared.places.Place.{Place}
 use Rattle.page_roff_syntax.specs.declared.quotes.Argument.{Argument}
 use Rattle.page_sets_lines.specs.declared.events.Event.{Event}
 use Rattle.page_sets_lines.specs.Lines.{is_unclosed}
-use Rattle.page_sets_lines.proofs.EventLemmas.{AllSit, AnyAt, Sits}
-use Rattle.page_sets_lines.proofs.LawLemmas.{is_word, nothing_part}
-use Rattle.page_sets_lines.proofs.OrderLemmas.{Takes}
-use Rattle.page_sets_lines.proofs.PrintLemmas.{Prints, either, first_taken, more_events, no_event, nothing_taken, own_alone, own_first, then_own, word_first, word_passed}
+use Rattle.page_sets_lines.proofs.ArgumentLaws.{AllSit, AnyAt, Sits, is_word, nothing_part, Takes, Prints, either, first_taken, more_events, no_event, nothing_taken, own_alone, own_first, then_own, word_first, word_passed}
 use Rattle.page_sets_mdoc_lines.specs.declared.delimiters.Delimiter.{Delimiter}
 use Rattle.page_sets_mdoc_lines.specs.declared.delimiters.Delimiter.TheVariants.{Opening, Middle, Closing}
 use Rattle.page_sets_mdoc_lines.specs.Parts.{word_delimiter, is_real}
-use Rattle.page_sets_mdoc_words.specs.Inlines.{word_or_delimiter, printed_word, printed, is_opening, lone, named, flags, section, reference, more_arguments, arguments, function_words, function_end, next_arguments, function_opened, bsd, address, link_words, missing_quote}
+use Rattle.page_sets_mdoc_words.specs.Inlines.{word_or_delimiter, printed_word, printed, is_opening, lone, named, flags, section, reference, more_arguments, arguments, function_words, function_end, next_arguments, function_opened, bsd, address, link_words, missing_quote, step_event}
 use Rattle.page_sets_lines.specs.declared.line_steps.SynopsisStep.{SynopsisStep}
 use Rattle.page_sets_names.specs.declared.generated_texts.GeneratedText.{GeneratedText}
 use Rattle.page_sets_mdoc_lines.specs.declared.blocks.Sentence.{Sentence}
 use Rattle.page_sets_mdoc_words.specs.declared.sentences.NameCount.{NameCount}
 use Rattle.page_sets_mdoc_words.specs.declared.sentences.NameCount.TheVariants as counts
-use Rattle.page_sets_mdoc_words.specs.Sentences.{preceded, followed, framed, name_count, has_comma, name_mark, sentence_name, marked, names_events, given_names, sentence_events, file_events, include_events}
+use Rattle.page_sets_mdoc_words.specs.Sentences.{preceded, followed, framed, name_count, has_comma, name_mark, sentence_name, marked, names_events, given_names, sentence_events, file_events, include_events, is_zero, joined}
+use Rattle.page_sets_lines.specs.declared.line_steps.LineStep.TheVariants.{ManualName}
 
 module _ (line : List ℕ) (IsSo : Event (List ℕ) → Type 0) where
   -- ---- words as they are printed
@@ -254,3 +252,40 @@ module _ (line : List ℕ) (IsSo : Event (List ℕ) → Type 0) where
         → Prints IsSo more words events → Prints IsSo (more + 2) words (framed place before after events)
     framed_prints more before after words events p =
         more_events (more + 1 + 1) (more + 2) words _ (omega arith) (preceded_prints (more + 1) before words _ (followed_prints more after words events p))
+
+-- ---- What is glued to a name, and the word before the last: helpers of proofs.
+
+and_goes_on : (place : Place) (left : NameCount) (events : List (Event (List ℕ))) → joined place left events ≡ joined place left [] ++ events
+and_goes_on place counts.Zero events = refl
+and_goes_on place _ events = refl
+
+pub name_goes_on : (place : Place) (mark : Option GeneratedText) (left : NameCount) (events : List (Event (List ℕ)))
+    → marked place mark (joined place left events) ≡ marked place mark [] ++ (joined place left [] ++ events)
+name_goes_on place None left events = and_goes_on place left events
+name_goes_on place (Some text) left events = rw (and_goes_on place left events) refl
+
+marked_goes_on : (place : Place) (mark : Option GeneratedText) (events : List (Event (List ℕ))) → marked place mark events ≡ marked place mark [] ++ events
+marked_goes_on place None events = refl
+marked_goes_on place (Some text) events = refl
+
+pub given_by : (place : Place) (sentence : Sentence) (names : List (Argument (List ℕ)))
+    → given_names place sentence names
+    ≡ (if is_zero (name_count names) then step_event place ManualName ∷ marked place (name_mark sentence false) [] else [])
+    ++ names_events place sentence (name_count names) names
+given_by place sentence [] =
+    rw (marked_goes_on place (name_mark sentence false) (names_events place sentence counts.Zero [])) refl
+given_by place sentence (a ∷ []) = refl
+given_by place sentence (a ∷ b ∷ []) = refl
+given_by place sentence (a ∷ b ∷ c ∷ names) = refl
+
+-- ---- What a macro does in the SYNOPSIS before its words and after them: helpers of proofs.
+
+framed_after : (place : Place) (after : Option SynopsisStep) (events : List (Event (List ℕ)))
+    → framed place None after events ≡ events ++ preceded place after []
+framed_after place None events = rw append-nil refl
+framed_after place (Some step) events = refl
+
+pub framed_by : (place : Place) (before after : Option SynopsisStep) (events : List (Event (List ℕ)))
+    → framed place before after events ≡ preceded place before [] ++ (events ++ preceded place after [])
+framed_by place None after events = framed_after place after events
+framed_by place (Some step) after events = rw (framed_after place after events) refl

@@ -1,7 +1,7 @@
 use Rattle.std.proofs.Common.{sym, subst, arith}
 use Rattle.std.specs.Str.{IsCharBoundary}
 use Rattle.page_core_escapes.specs.laws.Views.{HasTexts}
-use Rattle.page_core_escapes.proofs.EscapeTexts.{escape_cuts, escape_has_texts}
+use Rattle.page_core_escapes.proofs.Boundaries.{escape_cuts, escape_has_texts}
 use Rattle.page_core_escapes.proofs.escape.Goals as goal
 
 pub returns-clause-whole_characters : goal.returns-clause-whole_characters

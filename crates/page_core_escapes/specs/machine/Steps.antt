@@ -1,14 +1,27 @@
--- Of the code's own steps, which no public clause cites: what is read next in a quoted argument, a byte, an escape, an argument inside it
--- or the delimiter at its end; and fonts that one letter names.
-use Rattle.std.specs.Prelude.{ℕ, ◌≡◌, ◌+◌, ◌<◌, ◌≤◌, ◌==◌, nat_eq, Bool, not, ◌&&◌, List, [], ◌∷◌, length, take, drop, if◌then◌else◌, Option, Some, None, option_map, option_and_then, unwrap_or}
-use Rattle.std.specs.List.{starts_with}
+-- Escapes that are known by few bytes, as `\fB`. Source: roff(7), "Escape sequences".
+use Rattle.std.specs.Prelude.{ℕ, ◌≡◌, ◌<◌, ◌≤◌, Bool, slice_index, List, length, ◌+◌, ◌==◌, nat_eq, not, ◌&&◌, [], ◌∷◌, take, drop, if◌then◌else◌, Option, Some, None, option_map, option_and_then, unwrap_or}
 use Rattle.page_core_base.specs.Bytes.{ascii}
+use Rattle.page_core_escapes.specs.Meanings.{escape_of, Face, Meaning, face, bare_name, face_of}
+use Rattle.std.specs.List.{starts_with}
 use Rattle.page_core_escapes.specs.declared.extents.Extent.{Extent}
 use Rattle.page_core_escapes.specs.declared.extents.Extent.TheVariants.{Whole, QuotedFrom}
 use Rattle.page_core_escapes.specs.declared.quoted.Step.{Step}
 use Rattle.page_core_escapes.specs.declared.quoted.Step.TheVariants.{Passes, Opens, Closes}
 use Rattle.page_core_escapes.specs.Lengths.{written_len, extent_of, name_len}
-use Rattle.page_core_escapes.specs.Meanings.{Face, bare_name, face_of}
+
+-- a few bytes at a text's front are an escape, whether a pair of quotes is one character or not
+pub record ShortEscape (text : List ℕ) (meaning : Meaning) (len : ℕ) : Type 0 where
+  pub not_empty : 0 < len
+  pub within : len ≤ length text
+  pub escape : (pairs : Bool) → escape_of pairs text ≡ (meaning, len)
+
+-- they are one that asks for a font
+pub record ShortFont (text : List ℕ) (font : Face) (len : ℕ) : Type 0 where
+  pub backslash : slice_index text 0 ≡ ascii "\\"
+  pub escape : ShortEscape text (face font) len
+
+-- ---- Of the code's own steps, which no public clause cites: what is read next in a quoted argument, a byte, an escape, an argument inside it
+-- or the delimiter at its end; and fonts that one letter names.
 
 -- a byte begins neither an escape nor a delimiter, of which this is the first byte
 abbrev pub is_inner : (delimiter byte : ℕ) → Bool

@@ -1,20 +1,79 @@
--- The steps of a run, as the code takes them: a machine of proofs, which no public clause cites.
-use Rattle.std.specs.Prelude.{◌≡◌, ◌<◌, ◌≤◌, ℕ, ◌+◌, ◌-◌, ◌^◌, false, List, [], ◌++◌, Result, MatchResult, length, take}
-use Rattle.std.specs.Io.KnownBytes.{IsAtEnd}
-use Rattle.page_core_base.specs.Messages.{Rose}
-use Rattle.page_core_base.specs.Rows.{Laid, nothing}
+-- The layers of a page, and the edge that they are at: steps of the code, of which trust needs no reading.
+use Rattle.std.specs.Prelude.{◌≡◌, Option, None, Some, ◌≤◌, ◌^◌, ℕ, List, [], ◌++◌, ◌⊎◌, length, ◌<◌, ◌+◌, ◌-◌, false, Result, MatchResult, take}
+use Rattle.page_roff_source.specs.Runs.{counts_of}
+use Rattle.page_roff_source.specs.declared.counts.Counts.{Counts}
+use Rattle.page_engine.specs.declared.layers.Layers.{Layers}
+use Rattle.page_engine.specs.declared.pages.Phase.{Phase}
+use Rattle.page_engine.specs.declared.pages.Phase.TheVariants.{Open}
+use Rattle.page_engine.specs.Edges.{Edge, start}
+use Rattle.page_engine.specs.laws.Views.{IsReached, counts_at, Came, Front}
+use Rattle.page_fill.specs.declared.edges.FillEdge.{FillEdge}
+use Rattle.page_core_base.specs.Messages.{IsSinkFault, Rose}
 use Rattle.page_core_base.specs.declared.faults.Fault.{Fault}
+use Rattle.page_core_base.specs.Rows.{Laid, nothing}
+use Rattle.page_roff_lines.specs.laws.Cutting.{Point, point_after, lines_within, last_line, lines_from, first_point}
+use Rattle.page_engine.specs.Page.{settled, page}
+use Rattle.page_engine.specs.Runs.{Streams, Sinks, AllCame, FrontCame}
+use Rattle.std.specs.Io.KnownBytes.{IsAtEnd}
 use Rattle.page_core_base.specs.declared.faults.Fault.TheVariants.{Read, WriteText, WriteNotes, TooLong}
 use Rattle.page_core_base.specs.declared.page_settings.Settings.{Settings as PageSettings}
-use Rattle.page_roff_lines.specs.laws.Cutting.{Point, first_point, point_after, lines_within, last_line, lines_from}
 use Rattle.page_engine.specs.declared.runs.Run.{Run}
 use Rattle.page_engine.specs.laws.States.{PageState, IsOpenAt}
-use Rattle.page_engine.specs.Edges.{Edge, start}
-use Rattle.page_engine.specs.laws.Views.{counts_at, Came, Front}
-use Rattle.page_engine.specs.Page.{settled, page}
 use Rattle.page_core_streams.specs.Streams.{SourceState, HasGiven, IsLean, IsTooLong}
-use Rattle.page_engine.specs.Runs.{Sinks, AllCame}
-use Rattle.page_engine.specs.machine.Points.{page_from, settled_from, BrokenFrom}
+
+-- the layers are at an edge
+pub record IsAt (here : Layers) (e : Edge) : Type 0 where
+  pub filled : here.filler ≡ Some e.fill
+  pub lines : here.lines ≡ e.lines
+  pub output : here.output ≡ e.fill.output
+  pub levels : here.least ≡ e.least
+  pub worst_level : here.worst ≡ e.worst
+  pub last_line : here.last ≡ e.last
+
+abbrev pub with_fill : Layers → Option FillEdge → Option Edge
+with_fill p None = None
+with_fill p (Some f) = Some (record { least = p.least; worst = p.worst; last = p.last; lines = p.lines; fill = f })
+
+-- that edge, where the filler goes on
+abbrev pub edge_of : Layers → Option Edge
+edge_of p = with_fill p p.filler
+
+-- while a page is open its layers are at an edge that a page comes to, and its counts are those of its lines
+abbrev pub IsKept : Phase → Counts → Layers → Type 0
+IsKept Open counts layers = (e : Edge) × IsAt layers e × IsReached e × (counts ≡ counts_of layers.lines.roff)
+IsKept _ counts layers = Unit {0}
+
+-- ---- What bytes settle from a point of a page on, as a run reads them: a machine of proofs, which no public clause cites. From the first point it is what
+-- `specs/Runs.antt` says of the bytes alone.
+
+-- from an edge and a point between two bytes: the page of the bytes to come, and what their lines settle
+abbrev pub page_from : Edge → Point → List ℕ → Laid Edge
+page_from edge point bytes = page edge (lines_from point bytes)
+
+abbrev pub settled_from : Edge → Point → List ℕ → Laid Edge
+settled_from edge point bytes = settled edge (lines_within point bytes)
+
+-- what a sink failed in: the next line; or, where no byte was left, the page's end
+abbrev pub BrokeFrom : {R N : Type 0} → Streams R N → R → R → N → N → Edge → Point → List ℕ → List ℕ → Type 0
+BrokeFrom streams r r' n n' from point own left =
+    ((length (lines_within point own) ≤ 1) × FrontCame streams r r' n n' (settled_from from point own))
+    ⊎ ((own ≡ []) × (left ≡ []) × FrontCame streams r r' n n' (page from (last_line point)))
+
+-- a sink failed, after an edge and a point
+pub record BrokenFrom {R N : Type 0} (k : Sinks R N) (r r' : R) (n n' : N)
+    (from : Edge) (point : Point) (bytes : List ℕ) (fault : Fault) : Type 0 where
+  pub before : List ℕ
+  pub own : List ℕ
+  pub left : List ℕ
+  pub parts : bytes ≡ before ++ (own ++ left)
+  pub recent : length (own ++ left) ≤ 2 ^ 14
+  pub rows : R
+  pub notes : N
+  pub whole : AllCame k.to r rows n notes (settled_from from point before)
+  pub front : BrokeFrom k.to rows r' notes n' (settled_from from point before).edge (point_after point before) own left
+  pub cause : IsSinkFault fault (k.rows_failed r) (k.rows_failed r') (k.notes_failed n) (k.notes_failed n')
+
+-- ---- The steps of a run, as the code takes them: a machine of proofs, which no public clause cites.
 
 -- ---- bytes that are taken
 

@@ -1,10 +1,25 @@
--- What a latch over a sink of rows and a sink of messages knows of a plan: a machine of proofs, which no public clause cites.
-use Rattle.std.specs.Prelude.{◌≡◌, ℕ, List, Option, MatchOption}
+-- A machine, which no public clause cites: what an open row keeps to.
+use Rattle.std.specs.Prelude.{◌≡◌, ℕ, ◌*◌, ◌≤◌, List, length, Option, MatchOption}
+use Rattle.page_core_base.specs.declared.cells.Cell.{Cell}
+use Rattle.page_fill_cells.specs.Cells.{columns}
+use Rattle.page_core_base.specs.Limits.{CELLS}
+use Rattle.page_fill_rows.specs.OpenRows.{TAG_COLUMNS, BLANK_ROWS}
 use Rattle.std.specs.Borrow.{GName}
 use Rattle.page_core_base.specs.Messages.{IsSinkFault, Message}
 use Rattle.page_core_base.specs.laws.Views.{UpTo}
 use Rattle.page_core_base.specs.declared.faults.Fault.{Fault}
 use Rattle.page_core_base.specs.Rows.{LaidRow}
+
+pub record IsSound (cells : List Cell) (count gap word tag blanks : ℕ) : Type 0 where
+  pub bounded : length cells ≤ CELLS
+  pub counted : count ≡ columns cells
+  pub narrow : count ≤ 3 * length cells
+  pub gap_within : gap ≤ word
+  pub word_within : word ≤ length cells
+  pub tag_within : tag ≤ TAG_COLUMNS
+  pub blanks_within : blanks ≤ BLANK_ROWS
+
+-- ---- What a latch over a sink of rows and a sink of messages knows of a plan: a machine of proofs, which no public clause cites.
 
 -- what a sink's trait says of it
 pub record Seen (S I L : Type 0) : Type 1 where

@@ -6,8 +6,7 @@ use Rattle.page_roff_syntax.specs.Regions.{Opened}
 use Rattle.page_roff_syntax.specs.declared.region_heads.RegionHead.{RegionHead}
 use Rattle.page_roff_heads.specs.declared.conditions.Condition.{Condition}
 use Rattle.page_roff_heads.specs.declared.loops.LoopHead.{LoopHead}
-use Rattle.page_roff_blocks.specs.machine.Budgets.{Effects}
-use Rattle.page_roff_blocks.specs.machine.Languages.{Kind, state_of}
+use Rattle.page_roff_blocks.specs.machine.Languages.{Effects, Kind, state_of}
 use Rattle.page_roff_blocks.specs.declared.line_parts.Head.{Head}
 
 -- a condition, that of a turn too, a leaf and a line of a region that is run spend a number at most, and all else nothing

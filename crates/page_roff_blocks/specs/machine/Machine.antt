@@ -1,6 +1,6 @@
 -- The sources that are being run, one inside another: the steps of the code (`machine_law`). Trust needs no reading of it, but for moments of a
 -- run. Source: roff(7), "Macros", "while".
-use Rattle.std.specs.Prelude.{ℕ, zero, suc, ◌-◌, Bool, true, false, List, [], ◌∷◌, length, Option, Some, None}
+use Rattle.std.specs.Prelude.{ℕ, zero, suc, ◌-◌, Bool, true, false, List, [], ◌∷◌, length, Option, Some, None, ◌≡◌, ◌+◌, ◌*◌, ◌≤◌}
 use Rattle.page_roff_heads.specs.declared.loops.LoopHead.{LoopHead}
 use Rattle.page_roff_blocks.specs.declared.line_parts.LinePart.{LinePart}
 use Rattle.page_roff_blocks.specs.declared.line_parts.LinePart.TheVariants.{Leaf, Guard, Block, Loop, End, Region}
@@ -10,10 +10,12 @@ use Rattle.page_roff_blocks.specs.Parts.{line_parts}
 use Rattle.page_roff_syntax.specs.Regions.{is_ending, Opened}
 use Rattle.page_roff_blocks.specs.laws.Views.{BlockCursor, at_line, after_part, leave, what_ends}
 use Rattle.page_roff_blocks.specs.Forest.{outside}
-use Rattle.page_roff_blocks.specs.machine.Run.{Meaning, At, keep_if}
-use Rattle.page_roff_blocks.specs.machine.Steps.{met, step_guard, step_block, step_region, step_parts, begin_line, step_lines}
+use Rattle.page_roff_blocks.specs.machine.Steps.{Meaning, At, keep_if, met, step_guard, step_block, step_region, step_parts, begin_line, step_lines}
 use Rattle.page_core_base.specs.Limits.{CALLS}
-use Rattle.page_roff_blocks.specs.machine.Languages.{Kind, page, body, inner, Done, gives, calls, repeats, TURNS, Language, is_some, finish_at, run_body, turns, meaning_at}
+use Rattle.page_roff_blocks.specs.machine.Languages.{Kind, page, body, inner, Done, gives, calls, repeats, TURNS, Language, is_some, finish_at, run_body, turns, meaning_at, Budgeted}
+use Rattle.page_roff_heads.specs.declared.conditions.Condition.{Condition}
+use Rattle.page_roff_blocks.specs.declared.line_parts.Head.{Head}
+use Rattle.page_roff_syntax.specs.declared.region_heads.RegionHead.{RegionHead}
 
 -- The turns of a loop that is being run: its condition, all lines of its body, how many turns may still come, and whether one was begun.
 pub record Turning : Type 0 where
@@ -213,3 +215,142 @@ module _ {S : Type 0} (l : Language S) where
   -- one step
   unfoldable pub next : Running S → Option (Running S)
   next r = next_in (meaning_at l (depth r.under) r.top.kind) r.top.region r.top.parts r.top.lines r.top r.under r.state
+
+-- ---- A change of the state that nothing of a source looks at, as what was given out before: for proofs. Trust needs no reading of it.
+-- Source: roff(7), "Macros".
+
+module _ {S : Type 0} (front : S → S) where
+  -- what a part answers and the state after it
+  abbrev pub over_pair : {A : Type 0} → A × S → A × S
+  over_pair r = (r.0, front r.1)
+
+  abbrev pub over : At S → At S
+  over a = record { place = a.place; state = front a.state }
+
+  abbrev pub over_running : Running S → Running S
+  over_running r = record { top = r.top; under = r.under; state = front r.state }
+
+  abbrev pub over_done : Done S → Done S
+  over_done (gives s) = gives (front s)
+  over_done (calls lines args s) = calls lines args (front s)
+  over_done (repeats condition lines s) = repeats condition lines (front s)
+
+  -- the parts of a source do the same after it
+  pub record IsFrontOfParts (m : Meaning S) : Type 0 where
+    pub begins : (line : List ℕ) (s : S) → m.begins line (front s) ≡ front (m.begins line s)
+    pub meets : (is_remainder : Bool) (s : S) → m.meets is_remainder (front s) ≡ over_pair (m.meets is_remainder s)
+    pub tests : (condition : Condition (List ℕ)) (s : S) → m.tests condition (front s) ≡ over_pair (m.tests condition s)
+    pub refuses : (h : Head (List ℕ)) (s : S) → m.refuses h (front s) ≡ front (m.refuses h s)
+    pub unopened : (s : S) → m.unopened (front s) ≡ front (m.unopened s)
+    pub opens_region : (head : RegionHead (List ℕ)) (is_run : Bool) (s : S)
+        → m.opens_region head is_run (front s) ≡ front (m.opens_region head is_run s)
+    pub reads : (o : Opened) (line : List ℕ) (s : S) → m.reads o line (front s) ≡ front (m.reads o line s)
+    pub ends_region : (o : Opened) (line : List ℕ) (s : S) → m.ends_region o line (front s) ≡ front (m.ends_region o line s)
+    pub opens_loop : (h : LoopHead (List ℕ)) (s : S) → m.opens_loop h (front s) ≡ front (m.opens_loop h s)
+    pub collects : (open_blocks : ℕ) (line : List ℕ) (s : S) → m.collects open_blocks line (front s) ≡ front (m.collects open_blocks line s)
+    pub keeps : (line : List ℕ) (s : S) → m.keeps line (front s) ≡ front (m.keeps line s)
+
+  pub record IsFront (l : Language S) : Type 0 where
+    pub parts : (kind : Kind) → IsFrontOfParts (l.parts kind)
+    pub leaf : (may_call : Bool) (kind : Kind) (text : List ℕ) (s : S)
+        → l.leaf may_call kind text (front s) ≡ over_done (l.leaf may_call kind text s)
+    pub closes : (may_run : Bool) (s : S) → l.closes may_run (front s) ≡ over_done (l.closes may_run s)
+    pub turn : (kind : Kind) (condition : List ℕ) (s : S) → l.turn kind condition (front s) ≡ over_pair (l.turn kind condition s)
+    pub finish : (region : Option Opened) (in_loop : Bool) (s : S) → l.finish region in_loop (front s) ≡ front (l.finish region in_loop s)
+
+-- ---- How much work is left of sources that are run, at most: steps of the code. Trust needs no reading of it. Source: mandoc(1), "input stack limit".
+
+-- A line has at most two parts a byte, and two. A part counts twice: with the one that closes a loop the loop begins.
+unfoldable pub weight : List (List ℕ) → ℕ
+weight [] = 0
+weight (line ∷ lines) = 4 * length line + 5 + weight lines
+
+unfoldable pub work_in : Frame → ℕ
+work_in f = 2 * length f.parts + weight f.lines
+
+unfoldable pub works : List Frame → ℕ
+works [] = 0
+works (f ∷ fs) = suc (work_in f + works fs)
+
+-- the first part of a line may call a macro, and so may each re-read line
+unfoldable pub fresh_if : Bool → ℕ
+fresh_if true = 0
+fresh_if false = 1
+
+unfoldable pub fresh_at : List (LinePart (List ℕ)) → BlockCursor → ℕ
+fresh_at [] cursor = 0
+fresh_at (part ∷ more) cursor = fresh_if cursor.begun
+
+unfoldable pub fresh_in : Frame → ℕ
+fresh_in f = fresh_at f.parts f.cursor
+
+unfoldable pub freshes : List Frame → ℕ
+freshes [] = 0
+freshes (f ∷ fs) = fresh_in f + freshes fs
+
+-- how many macros may still be called, and turns of loops begun
+unfoldable pub credit_if : Bool → ℕ → ℕ → ℕ
+credit_if true left fresh = 0
+credit_if false left fresh = 2 * left + fresh
+
+unfoldable pub credit : {R : Type 0} → Budgeted R → ℕ → ℕ
+credit s fresh = credit_if s.gave_up s.left fresh
+
+-- all that is left, where the bodies of macros and loops have less than this weight
+unfoldable pub measure : {R : Type 0} → ℕ → Running (Budgeted R) → ℕ
+measure huge r = huge * credit r.state (fresh_in r.top + freshes r.under) + (work_in r.top + works r.under)
+
+-- a line of the page is run by itself
+unfoldable pub IsOnLine : Frame → Type 0
+IsOnLine f = f.kind ≡ page → (f.lines ≡ []) × (f.turning ≡ None)
+
+unfoldable pub AreOnLine : List Frame → Type 0
+AreOnLine [] = Unit {0}
+AreOnLine (f ∷ fs) = IsOnLine f × AreOnLine fs
+
+unfoldable pub HasMeasure : {R : Type 0} → Running (Budgeted R) → Type 0
+HasMeasure r = IsOnLine r.top × AreOnLine r.under
+
+-- how many turns may still come
+unfoldable pub turns_of : Option Turning → ℕ
+turns_of None = 0
+turns_of (Some t) = t.left
+
+-- After a step: where a macro or a loop was begun, or a turn of a loop, what is left of its lines has less than this weight.
+pub record HasBodyWithin {S : Type 0} (huge : ℕ) (r q : Running S) : Type 0 where
+  pub begins : length q.under ≡ suc (length r.under) → suc (weight q.top.lines) ≤ huge
+  pub turns : length q.under ≡ length r.under → suc (turns_of q.top.turning) ≡ turns_of r.top.turning → suc (weight q.top.lines) ≤ huge
+
+-- before the first step of a line of the page
+unfoldable pub IsFirst : {S : Type 0} → Running S → Type 0
+IsFirst r = (line : List ℕ) × (r.top.lines ≡ line ∷ []) × (r.top.parts ≡ []) × (r.under ≡ []) × (r.top.turning ≡ None)
+
+-- ---- A machine: what the lines taken spend, as interpolations, step by step. Trust needs no reading of it. Source: mandoc(1), "input stack limit".
+
+-- what a line that was taken may still spend: all of it until its first part is passed, where not all was given up
+unfoldable pub unspent_if : Bool → Bool → ℕ → ℕ
+unspent_if true gave_up most = 0
+unspent_if false true most = 0
+unspent_if false false most = most
+
+unfoldable pub unspent_at : Option Opened → List (LinePart (List ℕ)) → Bool → Bool → ℕ → ℕ
+unspent_at (Some o) parts begun gave_up most = 0
+unspent_at None [] begun gave_up most = 0
+unspent_at None (part ∷ more) begun gave_up most = unspent_if begun gave_up most
+
+unfoldable pub unspent : {R : Type 0} → ℕ → Running (Budgeted R) → ℕ
+unspent most r = unspent_at r.top.region r.top.parts r.top.cursor.begun r.state.gave_up most
+
+-- each source around the innermost one is past a part, which called the next
+unfoldable pub AreMet : List Frame → Type 0
+AreMet [] = Unit {0}
+AreMet (f ∷ fs) = (f.cursor.begun ≡ true) × AreMet fs
+
+module _ {S : Type 0} (l : Language S) where
+  -- a number of steps leads from one moment to another
+  unfoldable pub LeadsIn : ℕ → Running S → Running S → Type 0
+  LeadsIn zero r q = r ≡ q
+  LeadsIn (suc n) r q = (p : Running S) × (next l r ≡ Some p) × LeadsIn n p q
+
+  unfoldable pub Leads : Running S → Running S → Type 0
+  Leads r q = (n : ℕ) × LeadsIn n r q

@@ -7,19 +7,17 @@ use Rattle.page_roff_blocks.specs.declared.line_parts.Branch.{Branch}
 use Rattle.page_roff_syntax.specs.declared.region_heads.RegionHead.{RegionHead}
 use Rattle.page_roff_blocks.specs.declared.block_cursors.Reached.{Reached}
 use Rattle.page_roff_syntax.specs.Regions.{Opened}
-use Rattle.page_roff_blocks.specs.machine.Run.{Meaning, meet_as, value, keep_if}
+use Rattle.page_roff_blocks.specs.machine.Steps.{Meaning, meet_as, value, keep_if}
 use Rattle.page_roff_values.specs.Values.{arguments_in, lines_in}
 use Rattle.page_core_base.specs.laws.Views.{Came}
-use Rattle.page_roff_blocks.specs.machine.Languages.{Kind, Done, gives, calls, repeats, Language}
-use Rattle.page_roff_blocks.specs.machine.Budgets.{Budgeted, charge, begin_line, meaning, language}
-use Rattle.page_roff_blocks.specs.machine.Counting.{Budget, budgeted}
+use Rattle.page_roff_blocks.specs.machine.Languages.{Kind, Done, gives, calls, repeats, Language, Budgeted, charge, begin_line, meaning, language, Budget, budgeted}
 use Rattle.page_roff_effects.specs.declared.commands.ProductKind.{ProductKind}
 use Rattle.page_roff_effects.specs.declared.commands.ProductKind.TheVariants as kinds
 use Rattle.page_roff_effects.specs.machine.Acting.{Acting, acting_effects, acting_setting}
 use Rattle.page_roff_effects.specs.Regions.{condition_in, body_in}
 use Rattle.page_roff_effects.specs.laws.Views.{State}
 use Rattle.page_roff_effects.specs.States.{Given, says, takes}
-use Rattle.page_roff_stack.specs.machine.Changes.{is_page}
+use Rattle.page_roff_stack.specs.machine.Stacks.{is_page}
 use Rattle.page_roff_machine.specs.declared.budgeted_actions.BudgetedActions.{BudgetedActions}
 
 abbrev pub output_of : BudgetedActions → Output

@@ -1,25 +1,71 @@
--- The machine that runs a source line, as the code makes its steps: what is still to come of the line. Trust needs no reading of it.
--- Source: roff(7), "LANGUAGE SYNTAX"; mandoc(1), "DIAGNOSTICS".
-use Rattle.std.specs.Prelude.{◌≡◌, ◌≤◌, ℕ, length, Bool, true, false, List, [], ◌∷◌, Option, Some, None}
+-- A source line that is taken at once, as the code does it. Trust needs no reading of it. Source: roff(7), "LANGUAGE SYNTAX" and "MACRO SYNTAX".
+use Rattle.std.specs.Prelude.{◌≡◌, ℕ, true, false, List, [], None, ◌≤◌, length, Bool, ◌∷◌, Option, Some}
 use Rattle.page_core_base.specs.Texts.{TakenLine}
 use Rattle.page_core_base.specs.laws.Views.{line_view, Came}
+use Rattle.page_roff_blocks.specs.machine.Languages.{begun, Budget, budgeted, first_budget, budget_at, Language, run_page, Budgeted, language}
+use Rattle.page_roff_effects.specs.declared.at_once.AtOnce.{AtOnce}
+use Rattle.page_roff_effects.specs.declared.at_once.AtOnce.TheVariants as ways
+use Rattle.page_roff_effects.specs.machine.Acting.{IsCalled, IsTaken, with_number, measured, Acting, acting_effects}
+use Rattle.page_roff_effects.specs.Lines.{leaf_outcome}
+use Rattle.page_roff_effects.specs.States.{numbered, Memory, Given, takes}
+use Rattle.page_roff_stack.specs.machine.Stacks.{is_page, page_passed, Stack, first_stack, stack_at, running, next_of, is_nothing}
+use Rattle.page_roff_machine.specs.declared.runners.Runner.{Runner}
+use Rattle.page_roff_machine.specs.machine.Moving.{called}
 use Rattle.page_core_base.specs.declared.lines_taken.Taken.{Taken}
 use Rattle.page_core_base.specs.Messages.{Message}
 use Rattle.page_core_base.specs.declared.page_settings.Output.{Output}
 use Rattle.page_roff_blocks.specs.Forest.{SourcePlace}
-use Rattle.page_roff_blocks.specs.machine.Run.{At}
+use Rattle.page_roff_blocks.specs.machine.Steps.{At}
 use Rattle.page_core_base.specs.Limits.{LINE, REREAD}
-use Rattle.page_roff_blocks.specs.machine.Languages.{Language, run_page}
 use Rattle.page_roff_blocks.specs.machine.Machine.{Running, rest_of}
-use Rattle.page_roff_blocks.specs.machine.Budgets.{Budgeted, language}
-use Rattle.page_roff_blocks.specs.machine.Counting.{Budget, budgeted, first_budget, budget_at}
-use Rattle.page_roff_effects.specs.machine.Acting.{Acting, acting_effects}
 use Rattle.page_roff_effects.specs.machine.Acting as acting
 use Rattle.page_roff_effects.specs.Regions.{finish_outcome}
-use Rattle.page_roff_effects.specs.States.{Memory, Given, takes, numbered}
 use Rattle.page_roff_effects.specs.laws.Views.{State}
-use Rattle.page_roff_stack.specs.machine.Stacks.{Stack, first_stack, stack_at, running, next_of, is_nothing}
 use Rattle.page_roff_machine.specs.Giving.{notes_before, next_line, after_line}
+
+-- the page is the innermost source, outside of regions, loops and skipped blocks
+pub record IsOutside (s : Stack) : Type 0 where
+  pub page : is_page s.top.kind ≡ true
+  pub region : s.top.region ≡ None
+  pub loop : s.top.cursor.levels.in_loop ≡ false
+  pub skipped : s.top.cursor.levels.skipped ≡ 0
+
+-- a line was taken at once, as this one: the stack stays
+pub record TakesAtOnce (taken : TakenLine) (line : List ℕ) (number : ℕ) (old new : Runner) : Type 0 where
+  pub outside : IsOutside old.stack
+  pub stack : new.stack ≡ old.stack
+  pub budget : new.doing.budget ≡ begun old.doing.budget
+  pub actions : let a = with_number number old.doing.actions in
+      IsTaken a line (λ may_call. leaf_outcome (measured a.setting) may_call line a.memory) taken new.doing.actions
+
+-- the page went past a line that is one part
+abbrev pub page_after : Runner → Runner
+page_after r = record { stack = record { top = page_passed r.stack.top; under = []; texts = [] }; doing = r.doing }
+
+-- a macro was called at once, and is entered
+pub record CallsAtOnce (line : List ℕ) (number : ℕ) (old new : Runner) : Type 0 where
+  pub outside : IsOutside old.stack
+  pub before : Runner
+  pub stack : before.stack ≡ old.stack
+  pub budget : before.doing.budget ≡ begun old.doing.budget
+  pub call : let a = with_number number old.doing.actions in
+      IsCalled a line (λ may_call. leaf_outcome (measured a.setting) may_call line a.memory) before.doing.actions
+  pub enters : new ≡ called (page_after before)
+
+-- nothing was done; the actions may know the number of the line
+pub record Keeps (number : ℕ) (old new : Runner) : Type 0 where
+  pub stack : new.stack ≡ old.stack
+  pub budget : new.doing.budget ≡ old.doing.budget
+  pub setting : new.doing.actions.setting ≡ old.doing.actions.setting
+  pub memory : numbered number new.doing.actions.memory ≡ numbered number old.doing.actions.memory
+
+abbrev pub TakesAtOnceIf : AtOnce → List ℕ → ℕ → Runner → Runner → Type 0
+TakesAtOnceIf ways.Nothing line number old new = Keeps number old new
+TakesAtOnceIf (ways.Line taken) line number old new = TakesAtOnce (line_view taken) line number old new
+TakesAtOnceIf ways.Call line number old new = CallsAtOnce line number old new
+
+-- ---- The machine that runs a source line, as the code makes its steps: what is still to come of the line. Trust needs no reading of it.
+-- Source: roff(7), "LANGUAGE SYNTAX"; mandoc(1), "DIAGNOSTICS".
 
 -- the sources that run, what their parts do with what is remembered, and the budget of the source line
 pub record Machine : Type 0 where

@@ -11,14 +11,11 @@ use Rattle.page_roff_blocks.specs.declared.block_cursors.Reached.{Reached}
 use Rattle.page_roff_blocks.specs.declared.block_cursors.Reached.TheVariants.{PassedOver}
 use Rattle.page_roff_blocks.specs.laws.Views.{BlockCursor, way_of, what_ends}
 use Rattle.page_roff_syntax.specs.Regions.{Opened}
-use Rattle.page_roff_blocks.specs.machine.Run.{refuse_if}
-use Rattle.page_roff_blocks.specs.machine.Steps.{collect_if}
+use Rattle.page_roff_blocks.specs.machine.Steps.{refuse_if, collect_if}
 use Rattle.page_roff_values.specs.Values.{arguments_in}
 use Rattle.page_core_base.specs.laws.Views.{Came}
-use Rattle.page_roff_blocks.specs.machine.Languages.{arguments_of, Kind, page, body, is_some}
-use Rattle.page_roff_blocks.specs.machine.Machine.{Frame, Running, Turning, depth, leaf_next, loop_next, end_next, next}
-use Rattle.page_roff_blocks.specs.machine.Measures.{weight, turns_of}
-use Rattle.page_roff_blocks.specs.machine.Budgets.{Budgeted, meaning, language}
+use Rattle.page_roff_blocks.specs.machine.Languages.{arguments_of, Kind, page, body, is_some, Budgeted, meaning, language}
+use Rattle.page_roff_blocks.specs.machine.Machine.{Frame, Running, Turning, depth, leaf_next, loop_next, end_next, next, weight, turns_of}
 use Rattle.page_roff_effects.specs.declared.commands.ProductKind.{ProductKind}
 use Rattle.page_roff_effects.specs.declared.commands.ProductKind.TheVariants as kinds
 use Rattle.page_roff_effects.specs.machine.Acting.{with_arguments, IsCallable, IsRepeatable, acting_effects}
@@ -28,10 +25,8 @@ use Rattle.page_roff_stack.specs.declared.next.Next.{Next}
 use Rattle.page_roff_stack.specs.declared.next.Next.TheVariants as things
 use Rattle.page_roff_stack.specs.declared.movements.Movement.{Movement}
 use Rattle.page_roff_stack.specs.declared.movements.Movement.TheVariants as moves
-use Rattle.page_roff_stack.specs.machine.Changes.{went}
+use Rattle.page_roff_stack.specs.machine.Stacks.{went, Stack, running, with_top, call_of, loop_of, next_of, is_part, opens_block, may_end, unpacked}
 use Rattle.page_roff_stack.specs.machine.Stacks as stacks
-use Rattle.page_roff_stack.specs.machine.Stacks.{Stack, running, with_top, call_of, loop_of, next_of, is_part, opens_block, may_end}
-use Rattle.page_roff_stack.specs.machine.Views.{unpacked}
 use Rattle.page_roff_machine.specs.declared.budgeted_actions.BudgetedActions.{BudgetedActions}
 use Rattle.page_roff_machine.specs.declared.acts.Act.{Act}
 use Rattle.page_roff_machine.specs.declared.acts.Act.TheVariants as acts

@@ -2,9 +2,8 @@
 use Rattle.std.specs.Prelude.{◌≡◌, ◌≤◌, ◌^◌, ◌⊎◌, true, List, [], ◌++◌, map}
 use Rattle.page_core_base.specs.Messages.{Message}
 use Rattle.page_core_base.specs.laws.Views.{Came}
-use Rattle.page_roff_blocks.specs.machine.Machine.{next}
-use Rattle.page_roff_blocks.specs.machine.Measures.{HasMeasure, IsFirst}
-use Rattle.page_roff_blocks.specs.machine.Budgets.{language}
+use Rattle.page_roff_blocks.specs.machine.Machine.{next, HasMeasure, IsFirst}
+use Rattle.page_roff_blocks.specs.machine.Languages.{language}
 use Rattle.page_roff_effects.specs.machine.Acting.{acting_effects}
 use Rattle.page_roff_effects.specs.States.{says}
 use Rattle.page_roff_stack.specs.machine.Stacks.{running, next_of, is_nothing}

@@ -3,7 +3,7 @@
 use Rattle.std.specs.Prelude.{◌≡◌, ℕ, ◌+◌, ◌-◌, ◌<◌, ◌≤◌, ◌==◌, false, List, length, get_or, take, drop}
 use Rattle.std.specs.List.{All}
 use Rattle.page_roff_parts.specs.declared.known_fronts.KnownText.{KnownText}
-use Rattle.page_roff_parts.specs.machine.Fronts.{IsFront}
+use Rattle.page_roff_parts.specs.machine.Verbatim.{IsFront}
 
 -- beside each byte of a text from a place on, which is so many bytes further in the numbers, is how many bytes are copied from it on
 abbrev pub AreFronts : List ℕ → ℕ → List ℕ → ℕ → Type 0

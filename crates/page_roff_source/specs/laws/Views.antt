@@ -12,7 +12,7 @@ use Rattle.page_roff_blocks.specs.laws.Views.{PlaceFits}
 use Rattle.page_roff_values.specs.Values.{units_of}
 use Rattle.page_roff_effects.specs.States.{Given, says, takes, Memory}
 use Rattle.page_roff_effects.specs.laws.Views.{MemoryFits}
-use Rattle.page_roff_effects.specs.machine.Effects.{effects, expansions_of}
+use Rattle.page_roff_effects.specs.machine.Acting.{effects, expansions_of}
 use Rattle.page_roff_machine.specs.Giving.{next_line, after_line}
 use Rattle.page_roff_machine.specs.machine.Moving.{IsPassed}
 use Rattle.page_roff_source.specs.Runs.{RoffEdge, first_edge, counts_of, SourceLine, given, done}

@@ -1,11 +1,10 @@
 -- A machine: the lines of a page one after another, by what the parts of a source do. That they give what the forest of all lines gives is the law `forest_law`;
 -- trust needs no reading of it.
 use Rattle.std.specs.Prelude.{false, List, [], ◌++◌, map}
-use Rattle.page_roff_blocks.specs.machine.Run.{At}
+use Rattle.page_roff_blocks.specs.machine.Steps.{At}
 use Rattle.page_roff_values.specs.Values.{units_of}
-use Rattle.page_roff_blocks.specs.machine.Budgets.{Budgeted, language}
-use Rattle.page_roff_blocks.specs.machine.Languages.{run_page_lines}
-use Rattle.page_roff_effects.specs.machine.Effects.{effects}
+use Rattle.page_roff_blocks.specs.machine.Languages.{Budgeted, language, run_page_lines}
+use Rattle.page_roff_effects.specs.machine.Acting.{effects}
 use Rattle.page_roff_effects.specs.laws.Views.{State}
 use Rattle.page_roff_effects.specs.States.{says, numbered}
 use Rattle.page_roff_source.specs.Runs.{RoffEdge, SourceLine}

@@ -1,8 +1,8 @@
 -- A machine: what roff gives of a page's lines, one line after another. That it gives what the forest of all lines gives is the law
 -- `forest_law`; trust needs no reading of it.
 use Rattle.std.specs.Prelude.{◌≡◌, List, [], ◌∷◌, ◌++◌, map}
-use Rattle.page_roff_blocks.specs.machine.Run.{At}
-use Rattle.page_roff_blocks.specs.machine.Budgets.{Budgeted}
+use Rattle.page_roff_blocks.specs.machine.Steps.{At}
+use Rattle.page_roff_blocks.specs.machine.Languages.{Budgeted}
 use Rattle.page_roff_effects.specs.laws.Views.{State}
 use Rattle.page_roff_effects.specs.States.{Given, says}
 use Rattle.page_roff_source.specs.Runs.{RoffEdge, SourceLine}

@@ -2,12 +2,11 @@
 -- `forest_law`; trust needs no reading of it. Source: roff(7), "LANGUAGE SYNTAX".
 use Rattle.std.specs.Prelude.{◌≡◌, ℕ, ◌+◌, false, List, [], ◌∷◌, Option, Some, None}
 use Rattle.page_core_base.specs.Texts.{TakenLine}
-use Rattle.page_roff_blocks.specs.machine.Run.{At}
+use Rattle.page_roff_blocks.specs.machine.Steps.{At}
 use Rattle.page_roff_values.specs.Values.{units_of}
-use Rattle.page_roff_blocks.specs.machine.Budgets.{Budgeted, language}
-use Rattle.page_roff_blocks.specs.machine.Languages.{run_page}
+use Rattle.page_roff_blocks.specs.machine.Languages.{Budgeted, language, run_page}
 use Rattle.page_core_base.specs.Limits.{REREAD}
-use Rattle.page_roff_effects.specs.machine.Effects.{effects}
+use Rattle.page_roff_effects.specs.machine.Acting.{effects}
 use Rattle.page_roff_effects.specs.laws.Views.{State}
 use Rattle.page_roff_effects.specs.States.{Given, numbered, takes}
 use Rattle.page_roff_source.specs.Runs.{RoffEdge, SourceLine}

@@ -5,8 +5,7 @@ use Rattle.page_core_base.specs.Limits.{ARGS, BODY, CALLS, LINE}
 use Rattle.page_roff_blocks.specs.machine.Machine.{Frame}
 use Rattle.page_roff_stack.specs.declared.input_stacks.Caller.{Caller}
 use Rattle.page_roff_stack.specs.declared.input_stacks.InputStack.TheInside.{Inside}
-use Rattle.page_roff_stack.specs.machine.InputFrames.{frame_of, IsHeld}
-use Rattle.page_roff_stack.specs.machine.Stacks.{Stack, AreStacked}
+use Rattle.page_roff_stack.specs.machine.Stacks.{frame_of, IsHeld, Stack, AreStacked}
 
 -- the sources around, from the inside out: the text of each is what comes before the source inside it
 abbrev pub frames_in : List ℕ → List Caller → List Frame

@@ -1,5 +1,5 @@
 -- A fast way of the code: which widths of a text have an end, by the characters that are met behind them. Trust needs no reading of it.
-use Rattle.std.specs.Prelude.{◌≡◌, ℕ, zero, suc, ◌+◌, ◌-◌, ◌*◌, ◌/◌, ◌%◌, ◌<◌, ◌≤◌, ◌==◌, ◌&&◌, ◌||◌, not, Bool, true, nat_le, nat_lt, List, length, get_or, drop, if◌then◌else◌}
+use Rattle.std.specs.Prelude.{◌≡◌, ℕ, zero, suc, ◌+◌, ◌-◌, ◌*◌, ◌/◌, ◌%◌, ◌<◌, ◌≤◌, ◌==◌, ◌&&◌, ◌||◌, not, Bool, true, nat_le, nat_lt, List, length, get_or, drop, if◌then◌else◌, false}
 use Rattle.std.specs.Int.{bit_at}
 use Rattle.page_roff_syntax.specs.Delimiters.{character_len, width_len}
 
@@ -44,3 +44,21 @@ AreMet words text at =
 -- from a place on, what isn't marked is the delimiter of no width that has an end
 abbrev pub AreMarked : List ℕ → List ℕ → ℕ → Type 0
 AreMarked marks text at = (k : ℕ) → at ≤ k → k < length text → get_or marks k 0 ≡ 0 → width_len (drop k text) ≡ 0
+
+-- ---- Pairs of a backslash and one of two bytes, which most texts lack.
+
+-- a backslash (92) and one of two bytes
+abbrev pub is_pair : (first second one other : ℕ) → Bool
+is_pair first second one other = first == 92 && (second == one || second == other)
+
+-- whether such a pair begins at a place of a text
+abbrev pub pair_at : (one other : ℕ) → List ℕ → ℕ → Bool
+pair_at one other text k = is_pair (get_or text k 0) (get_or text (k + 1) 0) one other
+
+-- a text in which no such pair begins at this many places from one on
+abbrev pub LacksPairFrom : (at n : ℕ) → (one other : ℕ) → List ℕ → Type 0
+LacksPairFrom at n one other text = (k : ℕ) → at ≤ k → k < at + n → pair_at one other text k ≡ false
+
+-- a text without such a pair
+abbrev pub LacksPair : (one other : ℕ) → List ℕ → Type 0
+LacksPair one other text = (k : ℕ) → k + 1 < length text → pair_at one other text k ≡ false

@@ -7,7 +7,7 @@ use Rattle.page_roff_parts.specs.declared.parts.Part.{Part}
 use Rattle.page_roff_parts.specs.declared.parts.Part.TheVariants.{Copied, Called}
 use Rattle.page_roff_values.specs.declared.sources.Sources.{Sources}
 use Rattle.page_roff_values.specs.Values.{Surroundings, TextSoFar, LaidText, nothing, seq, put, call_at, value, finished_len}
-use Rattle.page_roff_parts.specs.machine.Views.{part_of}
+use Rattle.page_roff_parts.specs.machine.Verbatim.{part_of}
 
 -- how many interpolations more may be inside the innermost of these texts, where this many may inside the outermost
 unfoldable pub room_in : ℕ → List (List ℕ) → ℕ

@@ -9,7 +9,7 @@ use Rattle.page_core_base.specs.declared.page_settings.Settings.{Settings}
 use Rattle.page_sets_lines.specs.declared.events.Event.{Event}
 use Rattle.page_scopes_labels.specs.declared.labels.Label.{Label}
 use Rattle.page_scopes_tree.specs.laws.Edges.{events_items, events_edge, page_end_items, page_end_edge}
-use Rattle.page_scopes_tree.specs.machine.Frames.{Tables}
+use Rattle.page_scopes_tree.specs.machine.Stacks.{Tables}
 use Rattle.page_scopes_tree.specs.declared.nestings.Scope.{Scope}
 use Rattle.page_scopes_layout.specs.declared.contexts.Context.{Context}
 use Rattle.page_scopes_phrases.specs.Phrases.{EventOutcome}

@@ -4,9 +4,8 @@ use Rattle.page_core_base.specs.Rows.{Item}
 use Rattle.page_sets_lines.specs.declared.events.Event.{Event}
 use Rattle.page_scopes_tree.specs.Placements.{ScopesEdge}
 use Rattle.page_scopes_tree.specs.laws.Views.{Step, steps_of, does}
-use Rattle.page_scopes_tree.specs.machine.Frames.{Tables, framed}
-use Rattle.page_scopes_tree.specs.machine.Layouts.{settled, edge}
-use Rattle.page_scopes_tree.specs.machine.Nests.{scopes_nesting}
+use Rattle.page_scopes_tree.specs.machine.Stacks.{Tables, framed, scopes_nesting}
+use Rattle.page_scopes_tree.specs.machine.Nestings.{settled, edge}
 use Rattle.page_scopes_tree.specs.declared.acts.Act.TheVariants as acts
 
 abbrev pub steps_of_all : List (Event (List ℕ)) → List Step

@@ -3,8 +3,7 @@ use Rattle.std.specs.Prelude.{List, ℕ, ◌+◌, ◌*◌, ◌≤◌, length}
 use Rattle.page_core_base.specs.Texts.{TakenLine}
 use Rattle.page_sets_lines.specs.declared.events.Event.{Event}
 use Rattle.page_sets.specs.Mdoc.{either_events}
-use Rattle.page_sets.specs.machine.LineLaws.{HasOwnSlices, HoldsAt, IsLawful, slices_hold}
-use Rattle.page_sets.specs.machine.ManLaws.{man_lawful}
+use Rattle.page_sets.specs.machine.ManLaws.{HasOwnSlices, HoldsAt, IsLawful, slices_hold, man_lawful}
 use Rattle.page_sets.specs.machine.MdocLaws.{mdoc_lawful}
 use Rattle.page_sets.specs.declared.either.Either.{Either}
 use Rattle.page_sets.specs.declared.either.Either.TheVariants.{Man, Mdoc}

@@ -1,13 +1,19 @@
--- The macros of man(7) keep the laws of macro sets: proofs, which the set's laws cite. Source: man(7).
-use Rattle.std.proofs.Common.{◌≡◌, ℕ, ◌≤◌, Bool, true, false, ◌&&◌, List, [], ◌∷◌, length, drop, refl, arith, Option, None, Some, option_map, if◌then◌else◌}
+-- The laws of macro sets, from what each set's macros keep: proofs, which the sets' laws cite.
+use Rattle.std.proofs.Common.{◌≡◌, ℕ, ◌+◌, ◌*◌, ◌≤◌, Bool, false, List, [], ◌∷◌, length, arith, inl, inr, Option, None, Some, if◌then◌else◌, true, ◌&&◌, drop, refl, option_map}
+use Rattle.std.specs.Option.{option_map_or}
+use Rattle.std.proofs.lemmas.Bool.{cases_Bool}
 use Rattle.page_core_base.specs.Texts.{TakenLine}
+use Rattle.page_roff_syntax.specs.declared.quotes.Argument.{Argument}
+use Rattle.page_sets_lines.specs.Lines.{arguments_after, is_nameless, line_end, line_start, name_end, name_place, plain_events, event_at, first_of, name_of, plain_line, rest_of}
+use Rattle.page_sets_lines.specs.declared.events.Event.{Event}
+use Rattle.page_sets_lines.specs.declared.plain_lines.PlainLine.{PlainLine}
+use Rattle.page_sets_lines.specs.laws.Sets.{AreAll, AreInOrder, HasSlices, ClosesSlices, IsArgument, IsArgumentIfGiven, LeavesSlices, OpensSlices}
+use Rattle.page_sets_lines.proofs.ArgumentLaws.{all_after, earlier, AllSit, AnyAt, AnyAtIfGiven, Sits, open_at, line_order, line_slices, named_bytes, is_word, end_within, first_slice_after, first_text_after, name_part, nothing_part, request_slices, rest_part, second_text_after, AreArguments, all_arguments, in_order, Prints, both, either, first_taken, more_events, no_event, own_alone, own_first, then_own, word_first, word_passed}
+use Rattle.page_sets_mdoc_lines.proofs.WordSpanLemmas.{few_arguments_after}
 use Rattle.page_core_base.specs.declared.cells.Font.{Font}
 use Rattle.page_core_base.specs.declared.cells.Font.TheVariants as fonts
 use Rattle.page_core_base.specs.declared.note_kinds.NoteKind.{NoteKind}
 use Rattle.page_roff_syntax.specs.Arguments.{has_arguments}
-use Rattle.page_roff_syntax.specs.declared.quotes.Argument.{Argument}
-use Rattle.page_sets_lines.specs.Lines.{arguments_after, event_at, first_of, line_end, line_start, name_end, name_of, name_place, plain_line, rest_of}
-use Rattle.page_sets_lines.specs.declared.events.Event.{Event}
 use Rattle.page_sets_lines.specs.declared.events.EventKind.{EventKind}
 use Rattle.page_sets_lines.specs.declared.events.EventKind.TheVariants as kinds
 use Rattle.page_sets_lines.specs.declared.events.Join.{Join}
@@ -15,10 +21,6 @@ use Rattle.page_sets_lines.specs.declared.events.Join.TheVariants.{Apart, Glued}
 use Rattle.page_sets_lines.specs.declared.openers.Closer.TheVariants as closers
 use Rattle.page_sets_lines.specs.declared.openers.LineOpener.{LineOpener}
 use Rattle.page_sets_lines.specs.declared.openers.Opener.{Opener}
-use Rattle.page_sets_lines.specs.laws.Sets.{ClosesSlices, HasSlices, IsArgument, IsArgumentIfGiven, LeavesSlices, OpensSlices}
-use Rattle.page_sets_lines.proofs.EventLemmas.{AllSit, AnyAt, AnyAtIfGiven, Sits, open_at}
-use Rattle.page_sets_lines.proofs.LawLemmas.{is_word, end_within, first_slice_after, first_text_after, name_part, nothing_part, request_slices, rest_part, second_text_after}
-use Rattle.page_sets_lines.proofs.PrintLemmas.{Prints, both, either, first_taken, more_events, no_event, own_alone, own_first, then_own, word_first, word_passed}
 use Rattle.page_sets_mdoc_words.proofs.WordPrintLemmas.{marked_after}
 use Rattle.page_sets.specs.declared.man_rows.Opens.{Opens}
 use Rattle.page_sets.specs.declared.man_rows.Opens.TheVariants as opens
@@ -38,7 +40,64 @@ use Rattle.page_sets.specs.declared.man_rows.Last.{Last}
 use Rattle.page_sets.specs.declared.man_rows.Last.TheVariants as lasts
 use Rattle.page_sets.specs.declared.man_rows.ManRow.{ManRow}
 use Rattle.page_sets.specs.Man.{alternating_words, argument_word, closer, effect_kind, has_words, kind_events, last_events, leaf, line_scope, lone_events, macro_events, man_events, missing_quote, named_events, one_word, opener, option_words, plain_words, quote_at, quote_events, reference_words, refused_events, row_of, section_words, words_events}
-use Rattle.page_sets.specs.machine.LineLaws.{HoldsAt, IsLawful, line_lawful}
+
+-- where the events of a line may be: at its start, at its name, at its arguments
+pub record HoldsAt (IsSo : Event (List ℕ) → Type 0) (line : TakenLine) : Type 0 where
+  pub start : AnyAt line.text IsSo (line_start line.number)
+  pub name : is_nameless line ≡ false → AnyAt line.text IsSo (name_place line)
+  pub arguments : AllSit line.text IsSo line.number (arguments_after (name_end line) line.text)
+
+-- what then holds of them
+pub record IsLawful (IsSo : Event (List ℕ) → Type 0) (line : TakenLine) (events : List (Event (List ℕ))) : Type 0 where
+  pub each : AreAll IsSo events
+  pub order : AreInOrder 0 events
+  pub few : length events ≤ 2 * length line.text + 2
+
+-- a line with a name has at most two events an argument, and six
+abbrev pub HasPrinted : (Event (List ℕ) → Type 0) → TakenLine → List (Event (List ℕ)) → Type 0
+HasPrinted IsSo line events = Prints IsSo 6 (arguments_after (name_end line) line.text) events
+
+named_lawful : (IsSo : Event (List ℕ) → Type 0) (line : TakenLine) (events : List (Event (List ℕ))) → is_nameless line ≡ false → HasPrinted IsSo line events → IsLawful IsSo line events
+named_lawful IsSo line events n p =
+    let arguments = arguments_after (name_end line) line.text in
+    let b = named_bytes line n in
+    let a = few_arguments_after line.text (name_end line) in
+    let few = p.few in
+    record {
+      each = p.each;
+      order = in_order line.text 0 events arguments (earlier line.text 0 (name_end line + 1) arguments (omega arith) (all_after line.text (name_end line))) p.order;
+      few = omega (arith, b.0, b.1, a, few);
+    }
+
+pub line_lawful : (IsSo : Event (List ℕ) → Type 0) (line : TakenLine) (filled : Bool) (named : List (Event (List ℕ))) (plain : Option PlainLine) → HoldsAt IsSo line
+    → (is_nameless line ≡ false → HasPrinted IsSo line named)
+    → IsLawful IsSo line (option_map_or (plain_events line.number line.text) plain (if is_nameless line then line_end line.number filled ∷ [] else named))
+line_lawful IsSo line filled named None h keeps =
+    elim (cases_Bool (is_nameless line)) [
+      | inl t ↦ rw t (record { each = (h.start _ tt, tt); order = (tt, tt); few = omega arith })
+      | inr t ↦ rw t (named_lawful IsSo line named t (keeps t))
+    ]
+line_lawful IsSo line filled named (Some plain) h keeps =
+    record { each = (h.start _ (line_slices plain line.text), (h.start _ tt, tt)); order = (line_order plain line.text, (tt, tt)); few = omega arith }
+
+-- ---- slices of a line may be anywhere
+
+abbrev pub HasOwnSlices : TakenLine → Event (List ℕ) → Type 0
+HasOwnSlices line event = HasSlices line.text event.kind
+
+all_sit : (line : TakenLine) (arguments : List (Argument (List ℕ))) → AreArguments line.text arguments → AllSit line.text (HasOwnSlices line) line.number arguments
+all_sit line [] h = tt
+all_sit line (argument ∷ arguments) h =
+    (record { slice = h.0; first = λ kind prints slices. slices; byte = λ some kind slices. slices; quote = λ lacks kind slices. slices }, all_sit line arguments h.1)
+
+pub slices_hold : (line : TakenLine) → HoldsAt (HasOwnSlices line) line
+slices_hold line = record {
+  start = λ kind slices. slices;
+  name = λ named kind slices. slices;
+  arguments = all_sit line _ (all_arguments line.text (name_end line));
+}
+
+-- ---- The macros of man(7) keep the laws of macro sets: proofs, which the set's laws cite. Source: man(7).
 
 -- ---- slices
 

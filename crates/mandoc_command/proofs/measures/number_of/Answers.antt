@@ -1,7 +1,7 @@
 use Rattle.std.proofs.Common.{rules, arith, ◌∙◌, ◌≡◌, ◌<◌, ◌≤◌, length, true}
 use Rattle.std.specs.List.{list_all}
 use Rattle.std.specs.Char.{is_ascii_digit}
-use Rattle.mandoc_command.proofs.NumberLemmas.{number_of-digits}
+use Rattle.mandoc_command.proofs.LineLemmas.{number_of-digits}
 use Rattle.mandoc_command.proofs.measures.number_of.Goals as goal
 
 pub returns : goal.returns

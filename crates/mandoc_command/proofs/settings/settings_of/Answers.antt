@@ -5,7 +5,7 @@ use Rattle.page_core_base.specs.declared.page_settings.Language.TheVariants as l
 use Rattle.mandoc_command.specs.Names.{output_named, encoding_named, language_named}
 use Rattle.mandoc_command.specs.Measures.{no_measures, measures_of}
 use Rattle.mandoc_command.specs.Asked.{asked_of, chosen, least_of, system_of, text_in, values_of, with_os}
-use Rattle.mandoc_command.proofs.SettingLemmas.{all_but_os, asked-chosen}
+use Rattle.mandoc_command.proofs.LineLemmas.{all_but_os, asked-chosen}
 use Rattle.mandoc_command.proofs.settings.settings_of.Goals as goal
 
 pub returns-clause-value : goal.returns-clause-value

@@ -1,6 +1,6 @@
 use Rattle.std.proofs.Common.{ℕ, List, sym, subst}
 use Rattle.page_core_streams.specs.laws.Views.{Writes}
-use Rattle.mandoc_formats.proofs.Waits.{bad_line}
+use Rattle.mandoc_formats.proofs.Turns.{bad_line}
 use Rattle.mandoc_formats.proofs.faults.put_bad_line.Goals as goal
 
 pub returns-clause-writes : goal.returns-clause-writes

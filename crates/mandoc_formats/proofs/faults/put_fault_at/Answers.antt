@@ -3,7 +3,7 @@ use Rattle.std.specs.Prelude.{codes}
 use Rattle.page_core_streams.specs.Streams.{GrowsInto}
 use Rattle.page_core_streams.specs.laws.Views.{Writes}
 use Rattle.mandoc_formats.specs.Formats.{fault_text, line_end, shown}
-use Rattle.mandoc_formats.proofs.Waits.{writes_on, ended_before, line_parts}
+use Rattle.mandoc_formats.proofs.Turns.{writes_on, ended_before, line_parts}
 use Rattle.mandoc_formats.proofs.faults.put_fault_at.Goals as goal
 
 pub returns-then-put_front-clause-writes : goal.returns-then-put_front-clause-writes

@@ -1,6 +1,6 @@
 use Rattle.std.specs.Prelude.{codes}
 use Rattle.mandoc_formats.specs.Formats.{shown}
-use Rattle.mandoc_formats.proofs.Waits.{ended_before}
+use Rattle.mandoc_formats.proofs.Turns.{ended_before}
 use Rattle.mandoc_formats.proofs.faults.put_front.Goals as goal
 
 pub returns-clause-writes : goal.returns-clause-writes

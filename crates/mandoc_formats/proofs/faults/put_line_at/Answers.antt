@@ -1,7 +1,7 @@
 use Rattle.std.proofs.Common.{[], ◌++◌}
 use Rattle.std.specs.Prelude.{codes}
 use Rattle.mandoc_formats.specs.Formats.{line_end, shown}
-use Rattle.mandoc_formats.proofs.Waits.{writes_on, ended_before}
+use Rattle.mandoc_formats.proofs.Turns.{writes_on, ended_before}
 use Rattle.mandoc_formats.proofs.faults.put_line_at.Goals as goal
 
 pub returns-then-put_front-clause-writes : goal.returns-then-put_front-clause-writes

@@ -1,4 +1,4 @@
-use Rattle.mandoc_formats.proofs.Waits.{tells}
+use Rattle.mandoc_formats.proofs.Turns.{tells}
 use Rattle.mandoc_formats.proofs.faults.report_fault.Goals as goal
 
 pub returns-clause-line : goal.returns-clause-line

@@ -1,5 +1,5 @@
 use Rattle.mandoc_formats.specs.Formats.{unopened_line}
-use Rattle.mandoc_formats.proofs.Waits.{tells}
+use Rattle.mandoc_formats.proofs.Turns.{tells}
 use Rattle.mandoc_formats.proofs.faults.report_unopened.Goals as goal
 
 pub returns-clause-line : goal.returns-clause-line

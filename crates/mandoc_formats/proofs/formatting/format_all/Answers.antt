@@ -3,8 +3,7 @@ use Rattle.std.specs.Prelude.{string_bytes}
 use Rattle.mandoc_formats.specs.declared.faults.Done.{Done}
 use Rattle.mandoc_formats.specs.Formats.{HasFailed, IsFile}
 use Rattle.mandoc_formats.specs.Turns.{InTurn, does_stop, worse}
-use Rattle.mandoc_formats.proofs.Lists.{formats_none, formats_some, left, left_so, no_names, past_first, put_out_last, some_names, worse as worst_is}
-use Rattle.mandoc_formats.proofs.Turns.{Passed, passed_none, passed_on, ended_at, ended_last, start}
+use Rattle.mandoc_formats.proofs.Turns.{formats_none, formats_some, left, left_so, no_names, past_first, put_out_last, some_names, worse as worst_is, Passed, passed_none, passed_on, ended_at, ended_last, start}
 use Rattle.mandoc_formats.proofs.formatting.format_all.Goals as goal
 
 pub returns-then-is_empty-clause-came : goal.returns-then-is_empty-clause-came

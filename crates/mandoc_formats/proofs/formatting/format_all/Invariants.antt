@@ -2,8 +2,7 @@ use Rattle.std.proofs.Common.{◌<◌}
 use Rattle.std.specs.Prelude.{string_bytes}
 use Rattle.mandoc_formats.specs.Formats.{HasFailed, IsFile, IsPutOut}
 use Rattle.mandoc_formats.specs.Turns.{does_stop, worse}
-use Rattle.mandoc_formats.proofs.Lists.{left}
-use Rattle.mandoc_formats.proofs.Turns.{Passed}
+use Rattle.mandoc_formats.proofs.Turns.{left, Passed}
 use Rattle.mandoc_formats.proofs.formatting.format_all.Given as goal
 
 abbrev pub invariant-loop-name : goal.invariant-loop-name

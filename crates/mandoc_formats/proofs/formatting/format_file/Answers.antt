@@ -1,7 +1,7 @@
 use Rattle.std.proofs.Common.{ℕ, List, refl, ◌∙◌, subst, inl, inr, append-nil}
 use Rattle.page_core_base.specs.declared.faults.Fault.TheVariants.{Memory}
 use Rattle.mandoc_formats.specs.Formats.{Formatted, HasFailed, IsFound, Tells, fault_line, shown}
-use Rattle.mandoc_formats.proofs.Lists.{reported}
+use Rattle.mandoc_formats.proofs.Turns.{reported}
 use Rattle.mandoc_formats.proofs.formatting.format_file.Goals as goal
 
 pub returns-in-Ok : goal.returns-in-Ok

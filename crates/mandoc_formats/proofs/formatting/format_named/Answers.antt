@@ -1,5 +1,5 @@
 use Rattle.std.proofs.Common.{refl, inl}
-use Rattle.mandoc_formats.proofs.Lists.{reported}
+use Rattle.mandoc_formats.proofs.Turns.{reported}
 use Rattle.mandoc_formats.proofs.formatting.format_named.Goals as goal
 
 pub returns-in-None : goal.returns-in-None

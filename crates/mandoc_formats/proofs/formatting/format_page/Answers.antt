@@ -3,7 +3,7 @@ use Rattle.page_core_base.specs.declared.faults.Fault.{Fault}
 use Rattle.page_core_streams.specs.laws.Views.{Grows-append}
 use Rattle.page_engine.specs.declared.runs.Outcome.{Outcome}
 use Rattle.mandoc_formats.specs.Formats.{IsReported, page_out, page_err}
-use Rattle.mandoc_formats.proofs.Lists.{none_below}
+use Rattle.mandoc_formats.proofs.Turns.{none_below}
 use Rattle.mandoc_formats.proofs.formatting.format_page.Goals as goal
 
 pub returns-in-Ok : goal.returns-in-Ok

@@ -1,5 +1,5 @@
 use Rattle.page_core_streams.specs.laws.Views.{Grows-nil}
-use Rattle.mandoc_formats.proofs.Lists.{plain_out}
+use Rattle.mandoc_formats.proofs.Turns.{plain_out}
 use Rattle.mandoc_formats.proofs.formatting.run_into.Goals as goal
 
 pub returns-in-Lint : goal.returns-in-Lint

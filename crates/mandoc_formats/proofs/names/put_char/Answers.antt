@@ -1,4 +1,4 @@
-use Rattle.mandoc_formats.proofs.Waits.{failed_by}
+use Rattle.mandoc_formats.proofs.Turns.{failed_by}
 use Rattle.mandoc_formats.proofs.names.put_char.Goals as goal
 
 pub returns-clause-failed : goal.returns-clause-failed

@@ -7,7 +7,7 @@ use Rattle.std.proofs.lemmas.Iterator.Consumers.{YieldsList-end}
 use Rattle.std.proofs.lemmas.List.{map-id}
 use Rattle.page_core_streams.specs.laws.Views.{Grows-nil, Writes}
 use Rattle.mandoc_formats.specs.ShownNames.{is_hidden}
-use Rattle.mandoc_formats.proofs.Waits.{writes_on, ended_before}
+use Rattle.mandoc_formats.proofs.Turns.{writes_on, ended_before}
 use Rattle.mandoc_formats.proofs.names.put_name.Goals as goal
 
 abbrev shown_code : ℕ → List ℕ

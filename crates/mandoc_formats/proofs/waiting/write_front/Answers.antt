@@ -2,7 +2,7 @@ use Rattle.std.proofs.Common.{◌≤◌, ℕ, List, take, drop, length, ◌+◌,
 use Rattle.std.proofs.lemmas.List.{take_rest, length-drop}
 use Rattle.page_core_streams.specs.Streams.{Grows}
 use Rattle.page_core_streams.specs.laws.Views.{Grows-append}
-use Rattle.mandoc_formats.proofs.Waits.{take_plus, keeps_grown}
+use Rattle.mandoc_formats.proofs.Turns.{take_plus, keeps_grown}
 use Rattle.mandoc_formats.proofs.waiting.write_front.Goals as goal
 use Rattle.mandoc_formats.proofs.waiting.write_front.Goals.{in-Ok, in-Err}
 

@@ -3,7 +3,7 @@ use Rattle.std.specs.Prelude.{codes}
 use Rattle.page_core_streams.specs.Streams.{GrowsInto}
 use Rattle.mandoc_formats.specs.Formats.{line_end, shown}
 use Rattle.mandoc_programs.specs.Indexes.{compressed_text}
-use Rattle.mandoc_formats.proofs.Waits.{ended_before}
+use Rattle.mandoc_formats.proofs.Turns.{ended_before}
 use Rattle.mandoc_programs.proofs.Parts.{some_compressed}
 use Rattle.mandoc_programs.proofs.compressed.put_compressed.Goals as goal
 

@@ -6,8 +6,7 @@ use Rattle.mandoc_formats.specs.Formats.{HasFailed}
 use Rattle.mandoc_programs.specs.declared.pages.Form.{Form}
 use Rattle.mandoc_programs.specs.Indexes.{Index, IsDir, none_made, so, stops_making}
 use Rattle.mandoc_formats.specs.Turns.{worse, InTurn}
-use Rattle.mandoc_formats.proofs.Lists.{left_so, worse as worst_is}
-use Rattle.mandoc_formats.proofs.Turns.{passed_none, passed_on, ended_at, ended_last, start}
+use Rattle.mandoc_formats.proofs.Turns.{left_so, worse as worst_is, passed_none, passed_on, ended_at, ended_last, start}
 use Rattle.mandoc_programs.proofs.indexing.makewhatis.Goals as goal
 
 pub loop-name-init : goal.loop-name-init

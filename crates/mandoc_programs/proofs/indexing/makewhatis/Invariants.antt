@@ -3,8 +3,7 @@ use Rattle.std.specs.Prelude.{string_bytes}
 use Rattle.page_core_streams.specs.Streams.{Grows}
 use Rattle.mandoc_formats.specs.Formats.{HasFailed}
 use Rattle.mandoc_programs.specs.Indexes.{IsDir, IsSaid, Makes, none_made, so, stops_making}
-use Rattle.mandoc_formats.proofs.Lists.{left}
-use Rattle.mandoc_formats.proofs.Turns.{Passed}
+use Rattle.mandoc_formats.proofs.Turns.{left, Passed}
 use Rattle.mandoc_programs.proofs.indexing.makewhatis.Given as goal
 
 abbrev pub invariant-loop-name : goal.invariant-loop-name

@@ -3,8 +3,7 @@ use Rattle.page_core_streams.specs.laws.Views.{Grows-nil, Grows-append}
 use Rattle.mandoc_formats.specs.Formats.{HasFailed, shown, unopened_line}
 use Rattle.mandoc_programs.specs.declared.pages.Form.{Form}
 use Rattle.mandoc_programs.specs.Indexes.{IsAll, Makes, Reported, tail}
-use Rattle.mandoc_formats.proofs.Lists.{done_is}
-use Rattle.mandoc_formats.proofs.Waits.{tells}
+use Rattle.mandoc_formats.proofs.Turns.{done_is, tells}
 use Rattle.mandoc_programs.proofs.indexing.print_dir.Goals as goal
 
 pub returns-then-not-is_dir-clause-came : goal.returns-then-not-is_dir-clause-came

@@ -3,7 +3,7 @@ use Rattle.page_core_base.specs.declared.faults.Fault.{Fault}
 use Rattle.mandoc_formats.specs.Formats.{HasFailed, Tells, fault_line, shown, stops_after}
 use Rattle.mandoc_programs.specs.declared.pages.Tally.{Tally}
 use Rattle.mandoc_programs.specs.Indexes.{Reported, tail}
-use Rattle.mandoc_formats.proofs.Lists.{done_is}
+use Rattle.mandoc_formats.proofs.Turns.{done_is}
 use Rattle.mandoc_programs.proofs.Parts.{said_or}
 use Rattle.mandoc_programs.proofs.indexing.report_end.Goals as goal
 

@@ -4,7 +4,7 @@ use Rattle.mandoc_programs.specs.declared.bearings.Bearing.{Bearing}
 use Rattle.mandoc_programs.specs.Indexes.{OfUnlisted, with}
 use Rattle.mandoc_formats.specs.Turns.{Does}
 use Rattle.mandoc_programs.proofs.Parts.{quiet, unlisted}
-use Rattle.mandoc_formats.proofs.Waits.{tells}
+use Rattle.mandoc_formats.proofs.Turns.{tells}
 use Rattle.mandoc_programs.proofs.pages.report_unlisted.Goals as goal
 
 pub returns-in-NoFault : goal.returns-in-NoFault

@@ -2,7 +2,7 @@ use Rattle.std.proofs.Common.{ℕ, [], Result, Ok, Err, refl, ◌∙◌, subst}
 use Rattle.page_core_base.specs.declared.faults.Fault.{Fault}
 use Rattle.page_core_streams.specs.laws.Views.{Grows-nil}
 use Rattle.mandoc_programs.specs.Searches.{IsAnswered}
-use Rattle.mandoc_formats.proofs.Lists.{none_below}
+use Rattle.mandoc_formats.proofs.Turns.{none_below}
 use Rattle.mandoc_programs.proofs.searching.search_found.Goals as goal
 
 pub returns-in-Ok : goal.returns-in-Ok

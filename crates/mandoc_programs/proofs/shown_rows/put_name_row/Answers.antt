@@ -1,6 +1,6 @@
 use Rattle.std.proofs.Common.{length}
 use Rattle.mandoc_programs.specs.Searches.{shown_parts}
-use Rattle.mandoc_formats.proofs.Waits.{ended_before}
+use Rattle.mandoc_formats.proofs.Turns.{ended_before}
 use Rattle.mandoc_programs.proofs.shown_rows.put_name_row.Goals as goal
 
 pub returns : goal.returns

@@ -1,5 +1,5 @@
 use Rattle.mandoc_formats.specs.Formats.{shown}
-use Rattle.mandoc_formats.proofs.Waits.{ended_before}
+use Rattle.mandoc_formats.proofs.Turns.{ended_before}
 use Rattle.mandoc_programs.proofs.shown_rows.put_part.Goals as goal
 
 pub returns : goal.returns

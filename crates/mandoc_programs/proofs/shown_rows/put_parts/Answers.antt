@@ -1,7 +1,7 @@
 use Rattle.std.proofs.Common.{ℕ, List, ◌++◌, ap, sym, ◌∙◌, append-nil, subst}
 use Rattle.page_core_streams.specs.Streams.{Grows}
-use Rattle.page_core_streams.proofs.GrowsLemmas.{GrowsUpTo-more, GrowsUpTo-broken}
-use Rattle.mandoc_programs.proofs.ShownLemmas.{parts_more, parts_none}
+use Rattle.page_core_streams.proofs.AsciiLemmas.{GrowsUpTo-more, GrowsUpTo-broken}
+use Rattle.mandoc_programs.proofs.Parts.{parts_more, parts_none}
 use Rattle.mandoc_programs.proofs.shown_rows.put_parts.Goals as goal
 
 pub returns-then-not-put_part : goal.returns-then-not-put_part

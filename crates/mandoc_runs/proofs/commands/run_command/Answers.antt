@@ -1,4 +1,4 @@
-use Rattle.mandoc_programs.proofs.Sent.{all_came, front_came}
+use Rattle.mandoc_programs.proofs.Parts.{all_came, front_came}
 use Rattle.mandoc_runs.proofs.commands.run_command.Goals as goal
 
 pub returns-clause-ran : goal.returns-clause-ran

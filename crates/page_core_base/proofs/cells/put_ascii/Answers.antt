@@ -1,7 +1,7 @@
 use Rattle.std.proofs.Common.{◌+◌, sym, ap, ◌∙◌, ◌++◌, ◌∷◌, [], slice_index_or}
 use Rattle.page_core_base.specs.declared.cells.Cell.{Cell}
 use Rattle.page_core_base.specs.declared.cells.Font.TheVariants.{R}
-use Rattle.page_core_base.proofs.AsciiLemmas.{cells-more}
+use Rattle.page_core_base.proofs.RowLemmas.{cells-more}
 use Rattle.page_core_base.proofs.cells.put_ascii.Goals as goal
 
 pub loop-i-preserved : goal.loop-i-preserved

@@ -1,4 +1,4 @@
-use Rattle.page_core_base.proofs.TextLemmas.{whole_front, short_front}
+use Rattle.page_core_base.proofs.LatchLemmas.{whole_front, short_front}
 use Rattle.page_core_base.proofs.notes.text_front.Goals as goal
 
 pub returns-in-Ok : goal.returns-in-Ok

@@ -1,7 +1,7 @@
 use Rattle.std.proofs.Common.{◌<◌, [], ◌∷◌, length, get_or, arith}
 use Rattle.std.proofs.lemmas.Bool.Decides.{nat_tests}
 use Rattle.std.proofs.lemmas.List.{length-append, take_rest}
-use Rattle.page_core_base.proofs.TextLemmas.{unpaired_step}
+use Rattle.page_core_base.proofs.LatchLemmas.{unpaired_step}
 use Rattle.page_core_base.proofs.quotes.unpaired_front.Goals as goal
 
 pub loop-front-preserved : goal.loop-front-preserved

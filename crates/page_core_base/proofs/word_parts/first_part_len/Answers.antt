@@ -1,6 +1,6 @@
 use Rattle.std.proofs.Common.{◌+◌, ◌≤◌, length, sym, ◌∙◌, arith}
 use Rattle.std.proofs.lemmas.List.{take_rest}
-use Rattle.page_core_base.proofs.WordPartLemmas.{goes-all, goes-ends, goes-first, goes-more}
+use Rattle.page_core_base.proofs.LatchLemmas.{goes-all, goes-ends, goes-first, goes-more}
 use Rattle.page_core_base.proofs.word_parts.first_part_len.Goals as goal
 
 pub loop-len-init : goal.loop-len-init

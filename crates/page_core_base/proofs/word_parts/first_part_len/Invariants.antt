@@ -1,5 +1,5 @@
 use Rattle.std.proofs.Common.{length, ◌-◌}
-use Rattle.page_core_base.proofs.WordPartLemmas.{GoesOn}
+use Rattle.page_core_base.proofs.LatchLemmas.{GoesOn}
 use Rattle.page_core_base.proofs.word_parts.first_part_len.Given as goal
 
 abbrev pub invariant-loop-len : goal.invariant-loop-len

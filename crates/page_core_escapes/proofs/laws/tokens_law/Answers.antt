@@ -1,6 +1,6 @@
 use Rattle.std.proofs.Common.{[], refl, arith}
 use Rattle.page_core_escapes.specs.Tokens.{token_len}
-use Rattle.page_core_escapes.proofs.TokenLemmas.{tokens_more, tokens_none}
+use Rattle.page_core_escapes.proofs.Unwinding.{tokens_more, tokens_none}
 use Rattle.page_core_escapes.proofs.laws.tokens_law.Goals as goal
 
 pub returns-clause-none : goal.returns-clause-none

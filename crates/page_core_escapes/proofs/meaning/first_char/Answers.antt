@@ -1,7 +1,7 @@
 use Rattle.std.proofs.Common.{◌≡◌, ◌∙◌, sym, rules}
 use Rattle.std.specs.Prelude.{slice_index}
 use Rattle.std.specs.Str.{chars}
-use Rattle.page_core_escapes.proofs.MeaningLemmas.{first_char-text, first_char-none}
+use Rattle.page_core_escapes.proofs.Unwinding.{first_char-text, first_char-none}
 use Rattle.page_core_escapes.proofs.meaning.first_char.Goals as goal
 
 pub returns-in-Ok : goal.returns-in-Ok

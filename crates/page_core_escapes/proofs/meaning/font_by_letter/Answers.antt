@@ -1,6 +1,6 @@
 use Rattle.std.proofs.Common.{inl, inr, refl, rules, tests}
 use Rattle.page_core_escapes.specs.Meanings.{face_of}
-use Rattle.page_core_escapes.proofs.FontLemmas.{font_letter}
+use Rattle.page_core_escapes.proofs.Contents.{font_letter}
 use Rattle.page_core_escapes.proofs.meaning.font_by_letter.Goals as goal
 
 pub returns-in-82 : goal.returns-in-82

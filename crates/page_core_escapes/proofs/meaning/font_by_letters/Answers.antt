@@ -1,5 +1,5 @@
 use Rattle.std.proofs.Common.{◌≡◌, ◌∙◌, rules}
-use Rattle.page_core_escapes.proofs.FontLemmas.{several, face_of-several}
+use Rattle.page_core_escapes.proofs.Contents.{several, face_of-several}
 use Rattle.page_core_escapes.proofs.meaning.font_by_letters.Goals as goal
 
 pub returns-then-is_one_of : goal.returns-then-is_one_of

@@ -1,5 +1,5 @@
 use Rattle.std.proofs.Common.{arith}
-use Rattle.page_core_escapes.proofs.HexNumbers.{hex_number-take}
+use Rattle.page_core_escapes.proofs.Unwinding.{hex_number-take}
 use Rattle.page_core_escapes.proofs.meaning.hex_number.Goals as goal
 
 pub overflow_mul-number : goal.overflow_mul-number

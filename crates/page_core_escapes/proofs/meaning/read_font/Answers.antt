@@ -1,6 +1,6 @@
 use Rattle.std.proofs.Common.{arith, ap, ◌∙◌, sym}
 use Rattle.page_core_escapes.specs.Meanings.{face_of}
-use Rattle.page_core_escapes.proofs.FontLemmas.{face_of-empty, one_letter}
+use Rattle.page_core_escapes.proofs.Contents.{face_of-empty, one_letter}
 use Rattle.page_core_escapes.proofs.meaning.read_font.Goals as goal
 
 pub returns-in-empty : goal.returns-in-empty

@@ -1,7 +1,6 @@
 use Rattle.std.proofs.Common.{◌-◌, length, take, drop, ap, ap₂, ◌∙◌}
 use Rattle.page_core_escapes.specs.Meanings.{meaning_by, letter_meaning}
-use Rattle.page_core_escapes.proofs.Unwinding.{slice_from}
-use Rattle.page_core_escapes.proofs.MeaningLemmas.{meaning_of-short, meaning_of-parts}
+use Rattle.page_core_escapes.proofs.Unwinding.{slice_from, meaning_of-short, meaning_of-parts}
 use Rattle.page_core_escapes.proofs.meaning.read_meaning.Goals as goal
 
 pub returns-then-escape-lt2 : goal.returns-then-escape-lt2

@@ -1,4 +1,4 @@
-use Rattle.page_core_escapes.proofs.FontLemmas.{code_font}
+use Rattle.page_core_escapes.proofs.Contents.{code_font}
 use Rattle.page_core_escapes.proofs.tokens.code_font.Goals as goal
 
 pub returns : goal.returns

@@ -2,7 +2,7 @@ use Rattle.std.proofs.Common.{sym, ap, ◌∙◌, arith}
 use Rattle.std.proofs.lemmas.List.Sums.{prefix_len-le-length}
 use lib.Count.{count_trailing_zeros}
 use Rattle.page_core_escapes.specs.Tokens.{prints_itself}
-use Rattle.page_core_escapes.proofs.PlainLemmas.{first_stop}
+use Rattle.page_core_escapes.proofs.Unwinding.{first_stop}
 use Rattle.page_core_escapes.proofs.tokens.plain_len.Goals as goal
 
 pub returns-then-found-ne0-clause-value : goal.returns-then-found-ne0-clause-value

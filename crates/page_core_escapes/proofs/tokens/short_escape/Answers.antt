@@ -1,7 +1,7 @@
 use Rattle.std.proofs.Common.{inl, inr, refl}
 use Rattle.page_core_escapes.specs.declared.letters.LetterKind.TheVariants.{Char, Nothing, Tab, Blank}
 use Rattle.page_core_escapes.specs.Lengths.{letter_of}
-use Rattle.page_core_escapes.proofs.FontLemmas.{short_alone}
+use Rattle.page_core_escapes.proofs.Contents.{short_alone}
 use Rattle.page_core_escapes.proofs.tokens.short_escape.Goals as goal
 
 pub returns-in-38 : goal.returns-in-38

@@ -1,5 +1,5 @@
 use Rattle.page_core_escapes.specs.laws.Views.{face_view}
-use Rattle.page_core_escapes.proofs.FontLemmas.{short_font}
+use Rattle.page_core_escapes.proofs.Contents.{short_font}
 use Rattle.page_core_escapes.proofs.tokens.short_font.Goals as goal
 
 pub returns-in-Some : goal.returns-in-Some

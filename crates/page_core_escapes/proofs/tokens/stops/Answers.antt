@@ -1,7 +1,7 @@
 use Rattle.std.proofs.Common.{ℕ, cond, eqb, arith}
 use Rattle.std.proofs.lemmas.Simd.{zip2_splat, zip2_of_maps}
 use lib.Bits.{bit_or}
-use Rattle.page_core_escapes.proofs.PlainLemmas.{stops_mask}
+use Rattle.page_core_escapes.proofs.Unwinding.{stops_mask}
 use Rattle.page_core_escapes.proofs.tokens.stops.Goals as goal
 
 pub returns : goal.returns

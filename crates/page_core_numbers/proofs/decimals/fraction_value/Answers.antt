@@ -1,4 +1,4 @@
-use Rattle.page_core_numbers.proofs.DecimalLemmas.{ten_thousandths-places}
+use Rattle.page_core_numbers.proofs.ExpressionLemmas.{ten_thousandths-places}
 use Rattle.page_core_numbers.proofs.decimals.fraction_value.Goals as goal
 
 pub returns-clause-value : goal.returns-clause-value

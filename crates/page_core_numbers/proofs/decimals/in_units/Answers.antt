@@ -1,7 +1,7 @@
 use Rattle.std.proofs.Common.{◌≡◌, ◌∙◌, ◌-◌, ◌^◌, ap, arith, pos, min, w32}
 use Rattle.std.proofs.lemmas.Int.{to_z_pos}
 use Rattle.page_core_numbers.specs.Expressions.{units_of}
-use Rattle.page_core_numbers.proofs.DecimalLemmas.{units_held}
+use Rattle.page_core_numbers.proofs.ExpressionLemmas.{units_held}
 use Rattle.page_core_numbers.proofs.decimals.in_units.Goals as goal
 
 pub returns : goal.returns

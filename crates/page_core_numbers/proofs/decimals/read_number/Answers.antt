@@ -1,7 +1,7 @@
 use Rattle.std.proofs.Common.{◌<◌, ◌+◌, arith, length, rules, w32, FitsSigned}
 use Rattle.std.proofs.lemmas.Bool.Decides.{nat_tests}
 use Rattle.std.proofs.lemmas.Int.{to_z-of_z}
-use Rattle.page_core_numbers.proofs.DecimalLemmas.{number_at-none, number_at-some}
+use Rattle.page_core_numbers.proofs.ExpressionLemmas.{number_at-none, number_at-some}
 use Rattle.page_core_numbers.proofs.decimals.read_number.Goals as goal
 use Rattle.page_core_numbers.proofs.decimals.read_number.Goals.{else-is_empty-via-then-is_empty+else-is_empty-2, else-is_empty-via-else-is_empty}
 

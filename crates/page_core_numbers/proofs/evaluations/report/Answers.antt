@@ -1,6 +1,6 @@
 use Rattle.std.proofs.Common.{◌∙◌}
 use Rattle.std.proofs.lemmas.Result.{err_from_is_err_and}
-use Rattle.page_core_base.proofs.SinkLemmas.{UpTo-more, UpTo-within}
+use Rattle.page_core_base.proofs.LatchLemmas.{UpTo-more, UpTo-within}
 use Rattle.page_core_numbers.proofs.evaluations.report.Goals as goal
 
 pub loop-note-preserved : goal.loop-note-preserved

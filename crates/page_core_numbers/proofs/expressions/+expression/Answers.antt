@@ -1,10 +1,8 @@
 use Rattle.std.proofs.Common.{◌≡◌, ◌+◌, ◌-◌, ◌≤◌, ◌∷◌, ◌∙◌, ap, sym, arith, length, take, drop, option_map, option_copied}
 use Rattle.std.proofs.lemmas.List.{take_all, length-drop}
 use Rattle.page_core_numbers.specs.Expressions.{first, after_operation, operand_by, in_parentheses, expression_within}
-use Rattle.page_core_numbers.specs.machine.CodeValues.{expression_view, operand_view, found_view, count_of}
-use Rattle.page_core_numbers.specs.machine.Signs.{inside_of}
-use Rattle.page_core_numbers.proofs.ExpressionLemmas.{operand-number, operand-inside, operand-full, goes-on, goes-end, goes-first, goes-around, over-all, opening-drop}
-use Rattle.page_core_numbers.proofs.SignLemmas.{operand-signed, after_signs-front}
+use Rattle.page_core_numbers.specs.machine.Signs.{expression_view, operand_view, found_view, count_of, inside_of}
+use Rattle.page_core_numbers.proofs.ExpressionLemmas.{operand-number, operand-inside, operand-full, goes-on, goes-end, goes-first, goes-around, over-all, opening-drop, operand-signed, after_signs-front}
 use Rattle.page_core_numbers.proofs.expressions.+expression.Goals as goal
 use Rattle.page_core_numbers.proofs.expressions.+expression.Goals.{read_operand-in-None, read_operand-in-Some+then-room-eq0, read_operand-in-Some+else-room-eq0}
 

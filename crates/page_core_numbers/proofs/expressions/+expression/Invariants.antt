@@ -1,8 +1,6 @@
 use Rattle.std.proofs.Common.{◌≡◌, ◌≤◌, ◌+◌, ◌-◌, ◌*◌, length, drop, ℤ}
 use Rattle.page_core_numbers.specs.Expressions.{Read, expression_within, operand_by}
-use Rattle.page_core_numbers.specs.machine.CodeValues.{expression_view, count_of}
-use Rattle.page_core_numbers.specs.machine.Operations.{Goes}
-use Rattle.page_core_numbers.specs.machine.Signs.{inside_of}
+use Rattle.page_core_numbers.specs.machine.Signs.{expression_view, count_of, Goes, inside_of}
 use Rattle.page_core_numbers.proofs.expressions.+expression.Given as goal
 
 abbrev pub decreases-read_expression : goal.decreases-read_expression

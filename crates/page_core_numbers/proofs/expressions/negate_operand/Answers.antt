@@ -1,7 +1,7 @@
 use Rattle.std.proofs.Common.{◌∙◌, sym, rules, w32, FitsSigned}
 use Rattle.std.proofs.lemmas.Int.{to_z-of_z}
-use Rattle.page_core_numbers.proofs.SignLemmas.{negated_times-none, negated_times-some}
-use Rattle.page_core_numbers.specs.machine.CodeValues.{operand_view}
+use Rattle.page_core_numbers.proofs.ExpressionLemmas.{negated_times-none, negated_times-some}
+use Rattle.page_core_numbers.specs.machine.Signs.{operand_view}
 use Rattle.page_core_numbers.proofs.expressions.negate_operand.Goals as goal
 
 pub returns-in-None-clause-value : goal.returns-in-None-clause-value

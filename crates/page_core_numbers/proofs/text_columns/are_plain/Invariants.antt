@@ -1,5 +1,5 @@
 use Rattle.std.proofs.Common.{◌≡◌, ◌&&◌, drop}
-use Rattle.page_core_numbers.specs.machine.Plain.{are_plain}
+use Rattle.page_core_numbers.specs.machine.Signs.{are_plain}
 use Rattle.page_core_numbers.proofs.text_columns.are_plain.Given as goal
 
 abbrev pub invariant-loop-byte : goal.invariant-loop-byte

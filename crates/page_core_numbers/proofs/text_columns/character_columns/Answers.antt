@@ -1,5 +1,5 @@
 use Rattle.std.proofs.Common.{sym, arith}
-use Rattle.page_core_numbers.proofs.ColumnLemmas.{blank-columns, printed-printable}
+use Rattle.page_core_numbers.proofs.ExpressionLemmas.{blank-columns, printed-printable}
 use Rattle.page_core_numbers.proofs.SpelledLemmas.{control-columns}
 use Rattle.page_core_numbers.proofs.text_columns.character_columns.Goals as goal
 

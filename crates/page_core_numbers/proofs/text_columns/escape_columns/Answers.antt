@@ -1,7 +1,7 @@
 use Rattle.std.proofs.Common.{◌∙◌, ap, sym, inl, inr, rules, w32, FitsSigned}
 use Rattle.std.proofs.lemmas.Int.{to_z-of_z}
 use Rattle.page_core_numbers.specs.Columns.{blanks_in}
-use Rattle.page_core_numbers.proofs.ColumnLemmas.{blank-columns, blanks-columns}
+use Rattle.page_core_numbers.proofs.ExpressionLemmas.{blank-columns, blanks-columns}
 use Rattle.page_core_numbers.proofs.text_columns.escape_columns.Goals as goal
 
 pub returns-in-Tab-clause-value : goal.returns-in-Tab-clause-value

@@ -1,6 +1,6 @@
 use Rattle.std.proofs.Common.{◌∙◌, ap}
 use Rattle.page_core_numbers.specs.Columns.{characters_columns, printed_escape}
-use Rattle.page_core_numbers.proofs.ColumnLemmas.{front-of_escape}
+use Rattle.page_core_numbers.proofs.ExpressionLemmas.{front-of_escape}
 use Rattle.page_core_numbers.proofs.text_columns.escape_front.Goals as goal
 
 pub returns : goal.returns

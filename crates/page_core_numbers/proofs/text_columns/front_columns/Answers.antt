@@ -1,7 +1,6 @@
 use Rattle.std.proofs.Common.{◌≡◌, ◌≢◌, ◌<◌, true, take, arith}
-use Rattle.page_core_numbers.specs.machine.Plain.{are_plain}
-use Rattle.page_core_numbers.proofs.ColumnLemmas.{past-front, past-character}
-use Rattle.page_core_numbers.proofs.PlainLemmas.{front-of_plain, plain-some}
+use Rattle.page_core_numbers.specs.machine.Signs.{are_plain}
+use Rattle.page_core_numbers.proofs.ExpressionLemmas.{past-front, past-character, front-of_plain, plain-some}
 use Rattle.page_core_numbers.proofs.text_columns.front_columns.Goals as goal
 
 pub range_from-requires-in-32-to-126 : goal.range_from-requires-in-32-to-126

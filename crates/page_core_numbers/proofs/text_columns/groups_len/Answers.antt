@@ -1,5 +1,5 @@
 use Rattle.std.proofs.Common.{◌∙◌, sym, arith}
-use Rattle.page_core_numbers.proofs.PlainLemmas.{group-more}
+use Rattle.page_core_numbers.proofs.ExpressionLemmas.{group-more}
 use Rattle.page_core_numbers.proofs.text_columns.groups_len.Goals as goal
 
 pub loop-at-preserved : goal.loop-at-preserved

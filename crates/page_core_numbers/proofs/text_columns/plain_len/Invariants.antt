@@ -1,5 +1,5 @@
 use Rattle.std.proofs.Common.{◌≡◌, ◌-◌, ◌≤◌, length, take, true}
-use Rattle.page_core_numbers.specs.machine.Plain.{are_plain}
+use Rattle.page_core_numbers.specs.machine.Signs.{are_plain}
 use Rattle.page_core_numbers.proofs.text_columns.plain_len.Given as goal
 
 abbrev pub invariant-loop-at : goal.invariant-loop-at

@@ -1,4 +1,4 @@
-use Rattle.page_core_numbers.proofs.ColumnLemmas.{left-none}
+use Rattle.page_core_numbers.proofs.ExpressionLemmas.{left-none}
 use Rattle.page_core_numbers.proofs.text_columns.text_columns.Goals as goal
 
 pub returns-clause-value : goal.returns-clause-value

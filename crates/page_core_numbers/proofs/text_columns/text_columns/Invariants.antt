@@ -1,7 +1,7 @@
 use Rattle.std.proofs.Common.{◌≤◌, ◌+◌, ◌*◌, length}
 use denote.Text.{Utf8}
 use denote.Shadow.{shadow}
-use Rattle.page_core_numbers.specs.machine.Fronts.{Left}
+use Rattle.page_core_numbers.specs.machine.Signs.{Left}
 use Rattle.page_core_numbers.proofs.text_columns.text_columns.Given as goal
 
 -- what is left is text, and its columns are those that are still to come

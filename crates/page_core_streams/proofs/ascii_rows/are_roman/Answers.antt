@@ -1,7 +1,6 @@
 use Rattle.std.proofs.Common.{arith}
 use Rattle.std.proofs.lemmas.Nat.{le_or_l, le_or_r}
-use Rattle.page_core_streams.proofs.PlainLemmas.{joined_none}
-use Rattle.page_core_streams.proofs.AsciiLemmas.{roman-more, roman-less}
+use Rattle.page_core_streams.proofs.AsciiLemmas.{joined_none, roman-more, roman-less}
 use Rattle.page_core_streams.proofs.ascii_rows.are_roman.Goals as goal
 
 pub loop-font-preserved : goal.loop-font-preserved

@@ -1,7 +1,6 @@
 use Rattle.std.proofs.Common.{◌∙◌, sym, arith}
 use Rattle.std.proofs.lemmas.List.{length-take-le}
-use Rattle.page_core_streams.proofs.AsciiLemmas.{ascii-front}
-use Rattle.page_core_streams.proofs.GroupLemmas.{roman-front}
+use Rattle.page_core_streams.proofs.AsciiLemmas.{ascii-front, roman-front}
 use Rattle.page_core_streams.proofs.ascii_rows.write_first.Goals as goal
 
 pub slice_bounds-are_roman-end : goal.slice_bounds-are_roman-end

@@ -4,8 +4,7 @@ use Rattle.std.proofs.lemmas.List.{take_rest}
 use Rattle.page_core_base.specs.laws.Views.{cells_in}
 use Rattle.page_core_streams.specs.machine.PlainCells.{is_roman}
 use Rattle.page_core_streams.specs.Streams.{cell_bytes_of}
-use Rattle.page_core_streams.proofs.AsciiLemmas.{ascii-front, ascii-back, bytes-parts}
-use Rattle.page_core_streams.proofs.GroupLemmas.{part-more, roman-part}
+use Rattle.page_core_streams.proofs.AsciiLemmas.{ascii-front, ascii-back, bytes-parts, part-more, roman-part}
 use Rattle.page_core_streams.proofs.ascii_rows.write_parts.Goals as goal
 
 pub write_each-end-requires-clause-ascii : goal.write_each-end-requires-clause-ascii

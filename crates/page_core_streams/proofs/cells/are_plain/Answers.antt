@@ -2,7 +2,7 @@ use Rattle.std.proofs.Common.{get_or, arith}
 use Rattle.std.proofs.lemmas.Nat.{le_or_l, le_or_r}
 use Rattle.page_core_base.specs.declared.cells.Font.TheVariants.{R}
 use Rattle.page_core_base.specs.declared.cells.Cell.{Cell}
-use Rattle.page_core_streams.proofs.PlainLemmas.{plain_cell, plain_parts, plain_more, plain_less, joined_few, joined_none}
+use Rattle.page_core_streams.proofs.AsciiLemmas.{plain_cell, plain_parts, plain_more, plain_less, joined_few, joined_none}
 use Rattle.page_core_streams.proofs.cells.are_plain.Goals as goal
 
 abbrev no_cell : Cell

@@ -1,7 +1,7 @@
 use Rattle.std.proofs.Common.{sym, ap, ◌∙◌, arith, length}
 use Rattle.std.proofs.lemmas.List.{take_all}
 use Rattle.page_core_base.specs.Rows.{trimmed}
-use Rattle.page_core_streams.proofs.RowLemmas.{trimmed-group}
+use Rattle.page_core_streams.proofs.AsciiLemmas.{trimmed-group}
 use Rattle.page_core_streams.proofs.cells.len_before_groups.Goals as goal
 
 pub returns-then-cells-lt-LONG_ROW-clause-same : goal.returns-then-cells-lt-LONG_ROW-clause-same

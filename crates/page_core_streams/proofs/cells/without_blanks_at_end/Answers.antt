@@ -1,7 +1,7 @@
 use Rattle.std.proofs.Common.{sym, ◌∙◌, arith}
 use Rattle.page_core_base.specs.declared.cells.Font.TheVariants.{R}
 use Rattle.page_core_base.specs.declared.cells.Cell.{Cell}
-use Rattle.page_core_streams.proofs.RowLemmas.{trimmed_less, trimmed_same, trimmed_nothing}
+use Rattle.page_core_streams.proofs.AsciiLemmas.{trimmed_less, trimmed_same, trimmed_nothing}
 use Rattle.page_core_streams.proofs.cells.without_blanks_at_end.Goals as goal
 use Rattle.page_core_streams.proofs.cells.without_blanks_at_end.Goals.{then-loop-len-test+else-cells-len-eq32, else-loop-len-test}
 

@@ -1,7 +1,5 @@
 use Rattle.std.proofs.Common.{◌-◌, replicate, arith, ◌∙◌}
-use Rattle.page_core_streams.proofs.GrowsLemmas.{GrowsUpTo-more, GrowsUpTo-broken}
-use Rattle.page_core_streams.proofs.FailureLemmas.{rises-after}
-use Rattle.page_core_streams.proofs.RowLemmas.{blanks_moved}
+use Rattle.page_core_streams.proofs.AsciiLemmas.{GrowsUpTo-more, GrowsUpTo-broken, rises-after, blanks_moved}
 use Rattle.page_core_streams.proofs.text_rows.put_margin.Goals as goal
 
 pub returns-then-not-put-clause-writes : goal.returns-then-not-put-clause-writes

@@ -2,8 +2,7 @@ use Rattle.std.proofs.Common.{◌≡◌, ◌++◌, ◌+◌, ◌∷◌, [], repli
 use Rattle.std.specs.List.{flat_map}
 use Rattle.std.proofs.lemmas.List.{take_more_set}
 use Rattle.page_core_streams.specs.Streams.{cell_bytes_of, printed}
-use Rattle.page_core_streams.proofs.GrowsLemmas.{GrowsUpTo-start, GrowsUpTo-flow, GrowsUpTo-broken, GrowsUpTo-last}
-use Rattle.page_core_streams.proofs.RowLemmas.{cells_moved, printed_parts}
+use Rattle.page_core_streams.proofs.AsciiLemmas.{GrowsUpTo-start, GrowsUpTo-flow, GrowsUpTo-broken, GrowsUpTo-last, cells_moved, printed_parts}
 use Rattle.page_core_streams.proofs.text_rows.put_row.Goals as goal
 
 pub returns-in_default-clause-writes : goal.returns-in_default-clause-writes

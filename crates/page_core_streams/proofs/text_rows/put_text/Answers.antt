@@ -4,9 +4,7 @@ use Rattle.std.proofs.lemmas.Bool.Decides.{nat_tests}
 use Rattle.std.proofs.lemmas.List.{take-take, take_more_set}
 use Rattle.page_core_base.specs.laws.Views.{cells_in}
 use Rattle.page_core_streams.specs.Streams.{cell_bytes_of, printed}
-use Rattle.page_core_streams.proofs.GrowsLemmas.{GrowsUpTo-start, GrowsUpTo-flow, GrowsUpTo-broken, GrowsUpTo-last}
-use Rattle.page_core_streams.proofs.AsciiLemmas.{ascii-front, ascii-back, text-front, text-moved, text-printed}
-use Rattle.page_core_streams.proofs.GroupLemmas.{text-done}
+use Rattle.page_core_streams.proofs.AsciiLemmas.{GrowsUpTo-start, GrowsUpTo-flow, GrowsUpTo-broken, GrowsUpTo-last, ascii-front, ascii-back, text-front, text-moved, text-printed, text-done}
 use Rattle.page_core_streams.proofs.text_rows.put_text.Goals as goal
 
 pub returns-in_default-clause-writes : goal.returns-in_default-clause-writes

@@ -1,5 +1,5 @@
 use Rattle.std.proofs.Common.{refl}
-use Rattle.page_core_streams.proofs.GrowsLemmas.{sends}
+use Rattle.page_core_streams.proofs.AsciiLemmas.{sends}
 use Rattle.page_core_streams.proofs.writing.add.Goals as goal
 
 pub returns-then-send-clause-sent : goal.returns-then-send-clause-sent

@@ -2,8 +2,7 @@ use Rattle.std.proofs.Common.{◌≡◌, ◌++◌, [], ℕ, List, drop, get_or, 
 use Rattle.std.specs.Borrow.{Bor}
 use Rattle.std.specs.List.{flat_map}
 use Rattle.std.proofs.lemmas.List.{drop_more, drop_all}
-use Rattle.page_core_streams.proofs.GrowsLemmas.{GrowsUpTo-flow, GrowsUpTo-broken, GrowsUpTo-last}
-use Rattle.page_core_streams.proofs.FailureLemmas.{rises-after, fails-after}
+use Rattle.page_core_streams.proofs.AsciiLemmas.{GrowsUpTo-flow, GrowsUpTo-broken, GrowsUpTo-last, rises-after, fails-after}
 use Rattle.page_core_streams.proofs.writing.put_all.Goals as goal
 
 abbrev no_text : Bor (List ℕ)

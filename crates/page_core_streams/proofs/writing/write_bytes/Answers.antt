@@ -1,6 +1,6 @@
 use Rattle.std.proofs.Common.{refl, sym, take, drop}
 use Rattle.std.proofs.lemmas.List.{take_rest, take-append-drop}
-use Rattle.page_core_streams.proofs.GrowsLemmas.{GrowsUpTo-start, GrowsUpTo-more, GrowsUpTo-last}
+use Rattle.page_core_streams.proofs.AsciiLemmas.{GrowsUpTo-start, GrowsUpTo-more, GrowsUpTo-last}
 use Rattle.page_core_streams.proofs.writing.write_bytes.Goals as goal
 
 pub returns-in-Ok-2 : goal.returns-in-Ok-2

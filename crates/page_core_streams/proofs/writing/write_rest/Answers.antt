@@ -1,6 +1,6 @@
 use Rattle.std.proofs.Common.{sym, take, drop}
 use Rattle.std.proofs.lemmas.List.{take_rest, take-append-drop}
-use Rattle.page_core_streams.proofs.GrowsLemmas.{GrowsUpTo-more}
+use Rattle.page_core_streams.proofs.AsciiLemmas.{GrowsUpTo-more}
 use Rattle.page_core_streams.proofs.writing.write_rest.Goals as goal
 
 pub loop-rest-preserved-then-count-gt0 : goal.loop-rest-preserved-then-count-gt0

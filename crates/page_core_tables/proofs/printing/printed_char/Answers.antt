@@ -1,4 +1,4 @@
-use Rattle.page_core_tables.proofs.PrintedLemmas.{by_spelling_of-short}
+use Rattle.page_core_tables.proofs.Tables.{by_spelling_of-short}
 use Rattle.page_core_tables.proofs.printing.printed_char.Goals as goal
 
 pub returns-in_default-clause-short : goal.returns-in_default-clause-short

@@ -1,5 +1,5 @@
 use Rattle.page_core_tables.specs.laws.Views.{symbol_of}
-use Rattle.page_core_tables.proofs.PrintedLemmas.{by_spelling_of_glyph-short}
+use Rattle.page_core_tables.proofs.Tables.{by_spelling_of_glyph-short}
 use Rattle.page_core_tables.proofs.printing.printed_glyph.Goals as goal
 
 pub returns-in-Some-clause-short : goal.returns-in-Some-clause-short

@@ -1,7 +1,7 @@
 use Rattle.std.proofs.Common.{ℕ, List, sym, rules}
 use Rattle.std.specs.Borrow.{Bor}
 use Rattle.std.proofs.lemmas.List.Sorted.{answers_always}
-use Rattle.page_core_tables.proofs.Search.{searched_found, searched_absent}
+use Rattle.page_core_tables.proofs.Tables.{searched_found, searched_absent}
 use Rattle.page_core_tables.proofs.rows.find.Goals as goal
 
 pub returns-in-Ok : goal.returns-in-Ok

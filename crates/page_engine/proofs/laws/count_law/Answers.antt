@@ -1,4 +1,4 @@
-use Rattle.page_engine.proofs.Lists.{source_more, taken_more, expansions_more, each_line, counts_end}
+use Rattle.page_engine.proofs.Items.{source_more, taken_more, expansions_more, each_line, counts_end}
 use Rattle.page_engine.proofs.laws.count_law.Goals as goal
 
 pub returns : goal.returns

@@ -1,4 +1,4 @@
-use Rattle.page_engine.proofs.TextBytes.{texts_most}
+use Rattle.page_engine.proofs.WholeLines.{texts_most}
 use Rattle.page_engine.proofs.laws.texts_law.Goals as goal
 
 pub returns : goal.returns

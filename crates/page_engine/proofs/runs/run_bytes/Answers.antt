@@ -4,11 +4,11 @@ use Rattle.page_core_streams.specs.Streams.{Grows, GrowsInto, message_bytes}
 use Rattle.page_core_streams.specs.laws.Views.{source_state}
 use Rattle.page_core_streams.specs.declared.text_rows.TextRows.{TextRows}
 use Rattle.page_core_streams.specs.declared.text_notes.TextNotes.{TextNotes}
-use Rattle.page_core_streams.proofs.FailureLemmas.{count_true}
+use Rattle.page_core_streams.proofs.AsciiLemmas.{count_true}
 use Rattle.page_engine.specs.laws.Views.{RunsIn}
 use Rattle.page_engine.specs.Runs.{RunsOver, Sinks, writers}
-use Rattle.page_engine.proofs.Causes.{caused_on}
-use Rattle.page_engine.proofs.KnownBytes.{runs_in, passed_on}
+use Rattle.page_engine.proofs.Through.{caused_on}
+use Rattle.page_engine.proofs.WholeRuns.{runs_in, passed_on}
 use Rattle.page_engine.proofs.runs.run_bytes.Goals as goal
 
 pub returns-clause-runs : goal.returns-clause-runs

@@ -5,8 +5,8 @@ use Rattle.page_core_streams.specs.laws.Views.{state_of}
 use Rattle.page_core_streams.specs.declared.text_rows.TextRows.{TextRows}
 use Rattle.page_core_streams.specs.declared.text_notes.TextNotes.{TextNotes}
 use Rattle.page_engine.specs.Runs.{RunsOver, Sinks, writers}
-use Rattle.page_core_streams.proofs.FailureLemmas.{count_true, state_true}
-use Rattle.page_engine.proofs.Causes.{caused_on}
+use Rattle.page_core_streams.proofs.AsciiLemmas.{count_true, state_true}
+use Rattle.page_engine.proofs.Through.{caused_on}
 use Rattle.page_engine.proofs.runs.run_page.Goals as goal
 
 pub returns-clause-causes : goal.returns-clause-causes

@@ -3,7 +3,7 @@ use Rattle.std.proofs.Math.Seq.{take-nil}
 use Rattle.std.proofs.lemmas.Bool.Decides.{nat_tests}
 use Rattle.page_roff_syntax.specs.laws.Views.{argument_view}
 use Rattle.page_engine_header.specs.Header.{argument_cut, cut_item}
-use Rattle.page_engine_header.proofs.FieldLemmas.{cuts_more}
+use Rattle.page_engine_header.proofs.PrintingLemmas.{cuts_more}
 use Rattle.page_engine_header.proofs.fields.report_title.Goals as goal
 
 pub loop-left-preserved : goal.loop-left-preserved

@@ -1,7 +1,7 @@
 use Rattle.std.proofs.Common.{rules}
 use Rattle.page_engine_header.specs.laws.Views.{part_tokens}
 use Rattle.page_engine_header.specs.Header.{row_characters}
-use Rattle.page_engine_header.proofs.RowLemmas.{rows_came}
+use Rattle.page_engine_header.proofs.PrintingLemmas.{rows_came}
 use Rattle.page_engine_header.proofs.headers.give_rows.Goals as goal
 
 pub returns : goal.returns

@@ -1,5 +1,5 @@
 use Rattle.std.proofs.Common.{◌∙◌, sym}
-use Rattle.page_core_numbers.proofs.ColumnLemmas.{blanks-columns}
+use Rattle.page_core_numbers.proofs.ExpressionLemmas.{blanks-columns}
 use Rattle.page_engine_header.proofs.printing.give_escape.Goals as goal
 
 pub returns-in-Blanks : goal.returns-in-Blanks

@@ -1,4 +1,4 @@
-use Rattle.page_core_base.proofs.CharacterLemmas.{characters_of-text, characters_of-none}
+use Rattle.page_core_base.proofs.LatchLemmas.{characters_of-text, characters_of-none}
 use Rattle.page_engine_header.proofs.printing.give_token.Goals as goal
 
 pub returns-in-Ok : goal.returns-in-Ok

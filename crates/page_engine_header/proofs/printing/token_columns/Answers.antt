@@ -1,7 +1,7 @@
 use Rattle.std.proofs.Common.{refl, sym}
-use Rattle.page_core_numbers.proofs.ColumnLemmas.{blanks-columns}
+use Rattle.page_core_numbers.proofs.ExpressionLemmas.{blanks-columns}
 use Rattle.page_engine_header.proofs.PrintingLemmas.{quote_column}
-use Rattle.page_core_base.proofs.CharacterLemmas.{characters_of-text, characters_of-none}
+use Rattle.page_core_base.proofs.LatchLemmas.{characters_of-text, characters_of-none}
 use Rattle.page_engine_header.proofs.printing.token_columns.Goals as goal
 
 pub returns-in-White-clause-value : goal.returns-in-White-clause-value

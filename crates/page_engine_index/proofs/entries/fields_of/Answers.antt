@@ -1,5 +1,5 @@
 use Rattle.std.proofs.Common.{None, Some}
-use Rattle.page_engine_index.proofs.FieldLemmas.{entry_one, entry_two, entry_last}
+use Rattle.page_engine_index.proofs.MatchLemmas.{entry_one, entry_two, entry_last}
 use Rattle.page_engine_index.proofs.entries.fields_of.Goals as goal
 
 pub returns-in_err-names : goal.returns-in_err-names

@@ -1,4 +1,4 @@
-use Rattle.page_engine_index.proofs.FieldLemmas.{split_none, parted_some}
+use Rattle.page_engine_index.proofs.MatchLemmas.{split_none, parted_some}
 use Rattle.page_engine_index.proofs.entries.last_field.Goals as goal
 
 pub returns-in-Some : goal.returns-in-Some

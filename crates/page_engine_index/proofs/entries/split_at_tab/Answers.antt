@@ -1,6 +1,6 @@
 use Rattle.std.proofs.Common.{◌+◌}
 use Rattle.std.proofs.lemmas.List.{take_rest}
-use Rattle.page_engine_index.proofs.FieldLemmas.{split_none, split_some}
+use Rattle.page_engine_index.proofs.MatchLemmas.{split_none, split_some}
 use Rattle.page_engine_index.proofs.entries.split_at_tab.Goals as goal
 
 pub returns-in_err-end : goal.returns-in_err-end

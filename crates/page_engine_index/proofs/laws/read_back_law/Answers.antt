@@ -1,4 +1,4 @@
-use Rattle.page_engine_index.proofs.LawLemmas.{reads_back}
+use Rattle.page_engine_index.proofs.SearchLemmas.{reads_back}
 use Rattle.page_engine_index.proofs.laws.read_back_law.Goals as goal
 
 pub returns : goal.returns

@@ -1,5 +1,5 @@
 use Rattle.std.proofs.Common.{refl, [], arith}
-use Rattle.page_core_streams.proofs.GivenLemmas.{given_none, lean_none}
+use Rattle.page_core_streams.proofs.AsciiLemmas.{given_none, lean_none}
 use Rattle.page_engine_index.proofs.searches.search_index.Goals as goal
 
 pub returns-in-Err-clause-searches : goal.returns-in-Err-clause-searches

@@ -1,12 +1,12 @@
 use Rattle.std.proofs.Common.{rules, ap, ◌∙◌, subst}
 use Rattle.page_core_streams.specs.laws.Views.{state_of}
 use Rattle.page_core_streams.specs.Streams.{SourceState}
-use Rattle.page_core_streams.proofs.FailureLemmas.{count_true, state_true}
+use Rattle.page_core_streams.proofs.AsciiLemmas.{count_true, state_true}
 use Rattle.page_engine_index.specs.Searches.{RowsTo, SearchesOver, counting}
 use Rattle.page_engine_index.specs.Whatis.{asked}
 use Rattle.page_engine_index.specs.Written.{written}
 use Rattle.page_engine_index.specs.declared.line_sinks.TextLines.{TextLines}
-use Rattle.page_engine_index.proofs.CauseLemmas.{caused_on}
+use Rattle.page_engine_index.proofs.MatchLemmas.{caused_on}
 use Rattle.page_engine_index.proofs.searches.whatis.Goals as goal
 
 pub returns-clause-causes : goal.returns-clause-causes

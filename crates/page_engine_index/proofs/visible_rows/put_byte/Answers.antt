@@ -1,5 +1,5 @@
 use Rattle.std.proofs.Common.{refl, sym, ◌∙◌}
-use Rattle.page_core_streams.proofs.GrowsLemmas.{GrowsUpTo-start, GrowsUpTo-more, GrowsUpTo-last}
+use Rattle.page_core_streams.proofs.AsciiLemmas.{GrowsUpTo-start, GrowsUpTo-more, GrowsUpTo-last}
 use Rattle.page_engine_index.specs.Written.{held_back, own_byte}
 use Rattle.page_engine_index.proofs.visible_rows.put_byte.Goals as goal
 

@@ -1,5 +1,5 @@
 use Rattle.std.proofs.Common.{◌∙◌}
-use Rattle.page_core_streams.proofs.GrowsLemmas.{GrowsUpTo-more, GrowsUpTo-broken}
+use Rattle.page_core_streams.proofs.AsciiLemmas.{GrowsUpTo-more, GrowsUpTo-broken}
 use Rattle.page_engine_index.proofs.VisibleLemmas.{at_more}
 use Rattle.page_engine_index.proofs.visible_rows.put_part.Goals as goal
 

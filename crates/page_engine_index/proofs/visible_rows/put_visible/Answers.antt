@@ -1,6 +1,6 @@
 use Rattle.std.proofs.Common.{[], ◌+◌, drop, sym, ap, ◌∙◌, append-nil, arith}
 use Rattle.std.specs.List.{flat_map}
-use Rattle.page_core_streams.proofs.GrowsLemmas.{GrowsUpTo-more, GrowsUpTo-broken, GrowsUpTo-last}
+use Rattle.page_core_streams.proofs.AsciiLemmas.{GrowsUpTo-more, GrowsUpTo-broken, GrowsUpTo-last}
 use Rattle.page_engine_index.specs.Written.{visible_from}
 use Rattle.page_engine_index.proofs.VisibleLemmas.{parts_more, parts_end}
 use Rattle.page_engine_index.proofs.visible_rows.put_visible.Goals as goal

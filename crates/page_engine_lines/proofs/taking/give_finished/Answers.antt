@@ -1,7 +1,7 @@
 use Rattle.std.proofs.Common.{sym}
 use Rattle.page_core_base.specs.laws.Views.{line_view}
 use Rattle.page_engine_lines.specs.laws.Views.{decided}
-use Rattle.page_engine_lines.proofs.Parts.{plain_gives}
+use Rattle.page_engine_lines.proofs.BodySharedLemmas.{plain_gives}
 use Rattle.page_engine_lines.proofs.taking.give_finished.Goals as goal
 
 pub returns-in-Some-clause-came : goal.returns-in-Some-clause-came

@@ -1,7 +1,7 @@
 use Rattle.page_roff_source.specs.laws.Views.{given_of}
 use Rattle.page_core_base.specs.laws.Views.{line_view}
 use Rattle.page_engine_lines.specs.machine.Given.{given_items, body_after}
-use Rattle.page_engine_lines.proofs.Parts.{taken_shorter, same_but_taken, body_taken, body_done, items_taken, items_done}
+use Rattle.page_engine_lines.proofs.BodySharedLemmas.{taken_shorter, same_but_taken, body_taken, body_done, items_taken, items_done}
 use Rattle.page_engine_lines.proofs.taking.give_taken.Goals as goal
 
 pub loop-taken-smaller : goal.loop-taken-smaller

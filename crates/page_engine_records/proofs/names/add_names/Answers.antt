@@ -1,8 +1,7 @@
 use Rattle.std.proofs.Common.{length, sym, ap, ◌∙◌, [], arith}
 use Rattle.std.specs.List.{slice_split}
 use Rattle.page_engine_records.specs.Records.{is_comma, with_names}
-use Rattle.page_engine_records.proofs.NameLemmas.{names_more, names_none}
-use Rattle.page_engine_records.proofs.TextLemmas.{name_length}
+use Rattle.page_engine_records.proofs.NameLemmas.{names_more, names_none, name_length}
 use Rattle.page_engine_records.proofs.names.add_names.Goals as goal
 
 pub loop-name-preserved : goal.loop-name-preserved

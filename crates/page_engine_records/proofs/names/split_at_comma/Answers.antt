@@ -1,6 +1,6 @@
 use Rattle.std.proofs.Common.{◌+◌}
 use Rattle.std.proofs.lemmas.List.{take_rest}
-use Rattle.page_engine_index.proofs.FieldLemmas.{split_none, split_some}
+use Rattle.page_engine_index.proofs.MatchLemmas.{split_none, split_some}
 use Rattle.page_engine_records.proofs.names.split_at_comma.Goals as goal
 
 pub returns-in_err-end-clause-split : goal.returns-in_err-end-clause-split

@@ -1,7 +1,7 @@
 use Rattle.std.proofs.Common.{rules, ap, ◌∙◌, subst}
 use Rattle.page_core_streams.specs.laws.Views.{state_of}
 use Rattle.page_core_streams.specs.Streams.{SourceState}
-use Rattle.page_core_streams.proofs.FailureLemmas.{state_true}
+use Rattle.page_core_streams.proofs.AsciiLemmas.{state_true}
 use Rattle.page_engine_records.specs.Runs.{ReadsRecordOver}
 use Rattle.page_engine_records.proofs.runs.name_record.Goals as goal
 

@@ -6,8 +6,7 @@ use Rattle.page_scopes_words.specs.Fonts.{roman_fonts}
 use Rattle.page_scopes_words.specs.Words.{at}
 use Rattle.page_engine_records.specs.machine.NameTexts.{read}
 use Rattle.page_engine_records.specs.declared.name_readers.NameReader.{NameReader}
-use Rattle.page_engine_records.proofs.NameTextLemmas.{text_is_kept, tokens_signs}
-use Rattle.page_engine_records.proofs.ReaderLemmas.{came}
+use Rattle.page_engine_records.proofs.NameTextLemmas.{text_is_kept, tokens_signs, came}
 use Rattle.page_engine_records.proofs.runs.read_section.Goals as goal
 
 pub returns : goal.returns

@@ -1,5 +1,5 @@
 use Rattle.std.proofs.Common.{◌∙◌}
-use Rattle.page_engine_records.proofs.TextLemmas.{added_byte}
+use Rattle.page_engine_records.proofs.NameLemmas.{added_byte}
 use Rattle.page_engine_records.proofs.texts.add_byte.Goals as goal
 
 pub returns : goal.returns

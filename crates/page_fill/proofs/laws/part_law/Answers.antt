@@ -1,4 +1,4 @@
-use Rattle.page_fill.proofs.PartLaw.{next-fits, next-passes, both-fit, second-passes}
+use Rattle.page_fill.proofs.WordRunLemmas.{next-fits, next-passes, both-fit, second-passes}
 use Rattle.page_fill.proofs.laws.part_law.Goals as goal
 
 pub returns-clause-fits : goal.returns-clause-fits

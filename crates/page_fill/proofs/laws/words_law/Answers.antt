@@ -1,7 +1,7 @@
 use Rattle.std.proofs.Common.{refl}
-use Rattle.page_fill.proofs.FillerLaw.{items-law}
+use Rattle.page_fill.proofs.LetteredPieces.{items-law}
 use Rattle.page_fill.proofs.FillingLaw.{cut-law, held-law, end-law}
-use Rattle.page_fill.proofs.HeldSheets.{fresh-held}
+use Rattle.page_fill.proofs.WordRunLemmas.{fresh-held}
 use Rattle.page_fill.proofs.laws.words_law.Goals as goal
 
 pub returns-clause-items : goal.returns-clause-items

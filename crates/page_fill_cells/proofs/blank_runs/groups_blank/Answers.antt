@@ -1,6 +1,6 @@
 use Rattle.std.proofs.Common.{refl, sym, ◌∙◌, arith}
 use Rattle.page_fill_cells.specs.machine.BlankRuns.{is_blank_byte}
-use Rattle.page_fill_cells.proofs.GroupLemmas.{group-fails, group-more, group-last}
+use Rattle.page_fill_cells.proofs.PlaceLemmas.{group-fails, group-more, group-last}
 use Rattle.page_fill_cells.proofs.blank_runs.groups_blank.Goals as goal
 
 pub loop-at-init : goal.loop-at-init

@@ -1,5 +1,5 @@
 use Rattle.std.proofs.Common.{◌≡◌, ◌+◌, ◌<◌, length, take, drop, set, get_or, ap, ◌∙◌, arith}
-use Rattle.page_fill_cells.specs.machine.Places.{put_at}
+use Rattle.page_fill_cells.specs.machine.BlankRuns.{put_at}
 use Rattle.page_fill_cells.proofs.PlaceLemmas.{put-moved}
 use Rattle.page_fill_cells.proofs.cell_places.move_to_front.Goals as goal
 

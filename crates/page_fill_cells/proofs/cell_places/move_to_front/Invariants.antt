@@ -1,5 +1,5 @@
 use Rattle.std.proofs.Common.{◌≡◌, take, drop}
-use Rattle.page_fill_cells.specs.machine.Places.{put_at}
+use Rattle.page_fill_cells.specs.machine.BlankRuns.{put_at}
 use Rattle.page_fill_cells.proofs.cell_places.move_to_front.Given as goal
 
 abbrev pub invariant-loop-i : goal.invariant-loop-i

@@ -1,6 +1,6 @@
 use Rattle.std.proofs.Common.{◌≡◌, take}
 use Rattle.page_fill_cells.specs.Cells.{cells_of}
-use Rattle.page_fill_cells.specs.machine.Places.{put_at}
+use Rattle.page_fill_cells.specs.machine.BlankRuns.{put_at}
 use Rattle.page_fill_cells.proofs.cell_places.put_cells.Given as goal
 
 abbrev pub invariant-loop-i : goal.invariant-loop-i

@@ -1,5 +1,5 @@
 use Rattle.std.proofs.Common.{sym, ◌∙◌}
-use Rattle.page_fill_cells.proofs.BlankLemmas.{rest-blank, some-stand}
+use Rattle.page_fill_cells.proofs.PlaceLemmas.{rest-blank, some-stand}
 use Rattle.page_fill_cells.proofs.cell_widths.is_long_blank.Goals as goal
 
 pub returns-then-not-are_blank : goal.returns-then-not-are_blank

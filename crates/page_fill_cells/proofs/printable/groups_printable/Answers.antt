@@ -1,6 +1,6 @@
 use Rattle.std.proofs.Common.{refl, sym, ◌∙◌, arith}
 use Rattle.page_core_base.specs.laws.Views.{is_printable}
-use Rattle.page_fill_cells.proofs.GroupLemmas.{group-fails, group-more, group-last}
+use Rattle.page_fill_cells.proofs.PlaceLemmas.{group-fails, group-more, group-last}
 use Rattle.page_fill_cells.proofs.printable.groups_printable.Goals as goal
 
 pub loop-at-init : goal.loop-at-init

@@ -1,5 +1,5 @@
 use Rattle.page_fill_cells.specs.Cells.{cell_of}
-use Rattle.page_fill_rows.proofs.SheetLemmas.{letters-one}
+use Rattle.page_fill_rows.proofs.CharacterLemmas.{letters-one}
 use Rattle.page_fill_rows.proofs.characters.put_char.Goals as goal
 
 pub returns : goal.returns

@@ -1,7 +1,7 @@
 use Rattle.std.proofs.Common.{refl}
 use Rattle.page_core_base.specs.Limits.{name_of}
 use Rattle.page_core_base.specs.declared.limits.Limit.TheVariants.{Cells}
-use Rattle.page_core_base.proofs.TextLemmas.{whole_front}
+use Rattle.page_core_base.proofs.LatchLemmas.{whole_front}
 use Rattle.page_fill_rows.proofs.open_rows.cells_note.Goals as goal
 
 -- the name is short

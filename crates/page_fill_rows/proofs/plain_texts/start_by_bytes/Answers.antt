@@ -1,7 +1,7 @@
 use Rattle.std.proofs.Common.{refl, sym, ◌∙◌, ap, arith, take, ◌≡◌}
 use Rattle.std.proofs.lemmas.Bool.Decides.{nat_tests}
 use Rattle.page_fill_rows.specs.machine.Plain.{word_start}
-use Rattle.page_fill_rows.proofs.WordStartLemmas.{start-at-blank, start-at-letter, start-of-none}
+use Rattle.page_fill_rows.proofs.GroupLemmas.{start-at-blank, start-at-letter, start-of-none}
 use Rattle.page_fill_rows.proofs.plain_texts.start_by_bytes.Goals as goal
 
 pub loop-start-init : goal.loop-start-init

@@ -1,8 +1,7 @@
 use Rattle.std.proofs.Common.{eqb, take, w8, arith}
 use Rattle.std.proofs.lemmas.List.{length-take-le}
 use Rattle.std.proofs.lemmas.Simd.{bitmask_splat}
-use Rattle.page_fill_rows.proofs.GroupLemmas.{front-start}
-use Rattle.page_fill_rows.proofs.WordStartLemmas.{start-within}
+use Rattle.page_fill_rows.proofs.GroupLemmas.{front-start, start-within}
 use Rattle.page_fill_rows.proofs.plain_texts.vector_start.Goals as goal
 
 pub returns : goal.returns

@@ -1,4 +1,4 @@
-use Rattle.page_laws.proofs.CellLemmas.{cells-next}
+use Rattle.page_laws.proofs.OperationLemmas.{cells-next}
 use Rattle.page_laws.proofs.bounds.cells_law.Goals as goal
 
 pub returns : goal.returns

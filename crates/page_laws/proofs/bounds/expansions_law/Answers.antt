@@ -1,4 +1,4 @@
-use Rattle.page_laws.proofs.RoomLemmas.{plain-sum, page-count}
+use Rattle.page_laws.proofs.ShownLemmas.{plain-sum, page-count}
 use Rattle.page_laws.proofs.bounds.expansions_law.Goals as goal
 
 pub returns-clause-sum : goal.returns-clause-sum

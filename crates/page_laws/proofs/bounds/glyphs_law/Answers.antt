@@ -1,4 +1,4 @@
-use Rattle.page_laws.proofs.GlyphLemmas.{same-characters, same-unknown}
+use Rattle.page_laws.proofs.ShownLemmas.{same-characters, same-unknown}
 use Rattle.page_laws.proofs.bounds.glyphs_law.Goals as goal
 
 pub returns-clause-characters : goal.returns-clause-characters

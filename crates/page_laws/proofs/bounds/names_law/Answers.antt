@@ -1,4 +1,4 @@
-use Rattle.page_laws.proofs.RoomLemmas.{short-name, long-name}
+use Rattle.page_laws.proofs.ShownLemmas.{short-name, long-name}
 use Rattle.page_laws.proofs.bounds.names_law.Goals as goal
 
 pub returns-clause-short : goal.returns-clause-short

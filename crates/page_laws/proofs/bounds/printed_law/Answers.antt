@@ -1,4 +1,4 @@
-use Rattle.page_core_numbers.proofs.PrintedLemmas.{printed-none, printed-character, printed-escape}
+use Rattle.page_core_numbers.proofs.ExpressionLemmas.{printed-none, printed-character, printed-escape}
 use Rattle.page_laws.proofs.bounds.printed_law.Goals as goal
 
 pub returns-clause-none : goal.returns-clause-none

@@ -4,7 +4,7 @@ use Rattle.page_engine.specs.Page.{edge}
 use Rattle.page_engine.specs.laws.Views.{sinks}
 use Rattle.page_laws.specs.declared.feeding.Numbered.{Numbered}
 use Rattle.page_laws.specs.Fed.{lines_given}
-use Rattle.page_laws.proofs.FeedLemmas.{none_fed, one_fed, takes_one, part_fed}
+use Rattle.page_laws.proofs.ShownLemmas.{none_fed, one_fed, takes_one, part_fed}
 use Rattle.page_laws.proofs.feeding.feed_lines.Goals as goal
 
 abbrev no_line : Numbered

@@ -3,7 +3,7 @@ use Rattle.page_engine.specs.Edges.{Edge}
 use Rattle.page_engine.specs.laws.States.{IsOpenAt}
 use Rattle.page_engine.specs.laws.Views.{sinks}
 use Rattle.page_laws.specs.Fed.{lines_given}
-use Rattle.page_laws.proofs.FeedLemmas.{HasFed}
+use Rattle.page_laws.proofs.ShownLemmas.{HasFed}
 use Rattle.page_laws.proofs.feeding.feed_lines.Given as goal
 
 -- what the lines so far settle came, and the page is at the edge after them

@@ -1,5 +1,4 @@
-use Rattle.page_laws.proofs.FlagLemmas.{flag_reached}
-use Rattle.page_laws.proofs.SetPlaceLemmas.{all_in_line, all_one_more, all_same}
+use Rattle.page_laws.proofs.OperationLemmas.{flag_reached, all_in_line, all_one_more, all_same}
 use Rattle.page_laws.proofs.places.places_law.Goals as goal
 
 pub returns-clause-places : goal.returns-clause-places

@@ -1,7 +1,7 @@
 use Rattle.std.proofs.Common.{refl}
 use Rattle.page_core_base.specs.Texts.{has_no_control}
 use Rattle.page_core_streams.specs.Streams.{shown_detail}
-use Rattle.page_laws.proofs.ShownMessages.{parts-text, shown-plain}
+use Rattle.page_laws.proofs.ShownLemmas.{parts-text, shown-plain}
 use Rattle.page_laws.proofs.shown.messages_law.Goals as goal
 
 pub returns : goal.returns

@@ -1,4 +1,4 @@
-use Rattle.page_roff_blocks.proofs.BudgetLemmas.{page_line_bound}
+use Rattle.page_roff_blocks.proofs.LedgerLemmas.{page_line_bound}
 use Rattle.page_roff_blocks.proofs.language_laws.budget_law.Goals as goal
 
 pub returns : goal.returns

@@ -1,4 +1,4 @@
-use Rattle.page_roff_blocks.proofs.DepthLemmas.{next_fits}
+use Rattle.page_roff_blocks.proofs.StepLemmas.{next_fits}
 use Rattle.page_roff_blocks.proofs.language_laws.calls_law.Goals as goal
 
 pub returns : goal.returns

@@ -1,4 +1,4 @@
-use Rattle.page_roff_blocks.proofs.FrontLemmas.{rest_front}
+use Rattle.page_roff_blocks.proofs.MachineLemmas.{rest_front}
 use Rattle.page_roff_blocks.proofs.language_laws.front_law.Goals as goal
 
 pub returns : goal.returns

@@ -1,5 +1,5 @@
-use Rattle.page_roff_blocks.proofs.MeasureLemmas.{next_falls}
-use Rattle.page_roff_blocks.proofs.OnLineLemmas.{first_falls}
+use Rattle.page_roff_blocks.proofs.CreditLemmas.{next_falls}
+use Rattle.page_roff_blocks.proofs.StepLemmas.{first_falls}
 use Rattle.page_roff_blocks.proofs.language_laws.measure_law.Goals as goal
 
 pub returns-clause-falls : goal.returns-clause-falls

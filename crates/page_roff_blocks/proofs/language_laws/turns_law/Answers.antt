@@ -1,4 +1,4 @@
-use Rattle.page_roff_blocks.proofs.TurnLemmas.{more_turns}
+use Rattle.page_roff_blocks.proofs.LedgerLemmas.{more_turns}
 use Rattle.page_roff_blocks.proofs.language_laws.turns_law.Goals as goal
 
 pub returns : goal.returns

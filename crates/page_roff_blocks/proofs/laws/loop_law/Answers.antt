@@ -1,4 +1,4 @@
-use Rattle.page_roff_blocks.proofs.LoopLemmas.{left_cons}
+use Rattle.page_roff_blocks.proofs.TieLemmas.{left_cons}
 use Rattle.page_roff_blocks.proofs.laws.loop_law.Goals as goal
 
 pub returns : goal.returns

@@ -1,4 +1,4 @@
-use Rattle.page_roff_blocks.proofs.RoomLemmas.{line_parts_room, step_room}
+use Rattle.page_roff_blocks.proofs.LinePartLemmas.{line_parts_room, step_room}
 use Rattle.page_roff_blocks.proofs.laws.room_law.Goals as goal
 
 pub returns-clause-parts : goal.returns-clause-parts

@@ -1,6 +1,6 @@
 use Rattle.std.proofs.Common.{◌∙◌, sym, arith}
 use Rattle.page_roff_blocks.specs.laws.Views.{part_view}
-use Rattle.page_roff_blocks.proofs.LoopLemmas.{len_found, len_none, next_left, next_further, blocks_most, ends_from}
+use Rattle.page_roff_blocks.proofs.TieLemmas.{len_found, len_none, next_left, next_further, blocks_most, ends_from}
 use Rattle.page_roff_blocks.proofs.loops.len_of.Goals as goal
 
 pub returns-in-None : goal.returns-in-None

@@ -1,6 +1,5 @@
 use Rattle.std.proofs.Common.{refl, sym, ◌∙◌}
-use Rattle.page_roff_decoding.proofs.ScanLemmas.{rest_of}
-use Rattle.page_roff_decoding.proofs.ChoiceLemmas.{choice_of-low, choice_of-high, choice_of-end, eq_true, eq_false}
+use Rattle.page_roff_decoding.proofs.ScanLemmas.{rest_of, choice_of-low, choice_of-high, choice_of-end, eq_true, eq_false}
 use Rattle.page_roff_decoding.proofs.choosing.choose.Goals as goal
 
 pub returns-then-sequence_len-eq0 : goal.returns-then-sequence_len-eq0

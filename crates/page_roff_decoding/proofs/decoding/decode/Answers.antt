@@ -1,10 +1,8 @@
 use Rattle.std.proofs.Common.{◌+◌, sym, ◌∙◌, arith}
 use Rattle.std.proofs.lemmas.List.{length-drop, drop_all}
 use Rattle.page_roff_decoding.specs.Decoding.{characters_after}
-use Rattle.page_roff_decoding.proofs.FineLemmas.{decode_line-is_line}
-use Rattle.page_roff_decoding.proofs.ScanLemmas.{rest_of}
-use Rattle.page_roff_decoding.proofs.CharacterLemmas.{so_far-more, so_far-stop, so_far-end}
-use Rattle.page_roff_decoding.proofs.PlainLemmas.{so_far-text, so_far-front}
+use Rattle.page_roff_decoding.proofs.SequenceLemmas.{decode_line-is_line, so_far-text, so_far-front}
+use Rattle.page_roff_decoding.proofs.ScanLemmas.{rest_of, so_far-more, so_far-stop, so_far-end}
 use Rattle.page_roff_decoding.proofs.decoding.decode.Goals as goal
 
 pub loop-at-preserved-then-at-text : goal.loop-at-preserved-then-at-text

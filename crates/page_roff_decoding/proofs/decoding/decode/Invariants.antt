@@ -1,6 +1,6 @@
 use Rattle.std.proofs.Common.{◌≤◌, ◌-◌, length, drop}
 use Rattle.page_roff_decoding.specs.Decoding.{characters}
-use Rattle.page_roff_decoding.proofs.CharacterLemmas.{FitsSoFar}
+use Rattle.page_roff_decoding.proofs.ScanLemmas.{FitsSoFar}
 use Rattle.page_roff_decoding.proofs.decoding.decode.Given as goal
 
 -- what fits of the text was decoded as far as this place

@@ -1,6 +1,6 @@
 use Rattle.std.proofs.Common.{List, ℕ, ap, ◌∙◌, arith}
 use Rattle.page_core_base.specs.declared.note_kinds.NoteKind.TheVariants.{BadChar}
-use Rattle.page_roff_decoding.proofs.ReportLemmas.{hex_detail}
+use Rattle.page_roff_decoding.proofs.SequenceLemmas.{hex_detail}
 use Rattle.page_roff_decoding.proofs.reporting.bad_character.Goals as goal
 
 pub returns : goal.returns

@@ -1,7 +1,7 @@
 use Rattle.std.proofs.Common.{List, ℕ, ap, ◌∙◌}
 use Rattle.page_core_base.specs.declared.note_kinds.NoteKind.TheVariants.{Limit}
 use Rattle.page_core_base.specs.Messages.{text_front}
-use Rattle.page_roff_decoding.proofs.ReportLemmas.{limit_detail}
+use Rattle.page_roff_decoding.proofs.SequenceLemmas.{limit_detail}
 use Rattle.page_roff_decoding.proofs.reporting.limit_note.Goals as goal
 
 pub returns : goal.returns

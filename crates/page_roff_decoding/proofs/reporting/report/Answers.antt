@@ -1,5 +1,5 @@
 use Rattle.page_roff_decoding.specs.Decoding.{line_limit, characters, characters_within}
-use Rattle.page_roff_decoding.proofs.ReportLemmas.{untaken}
+use Rattle.page_roff_decoding.proofs.SequenceLemmas.{untaken}
 use Rattle.page_roff_decoding.proofs.reporting.report.Goals as goal
 
 pub returns-then-not-takes-clause-gives : goal.returns-then-not-takes-clause-gives

@@ -1,12 +1,11 @@
 use Rattle.std.proofs.Common.{ℕ, ◌≡◌, ◌+◌, ◌-◌, refl, subst, ◌∙◌, arith}
 use Rattle.std.proofs.lemmas.List.{length-drop}
 use Rattle.page_core_base.specs.laws.Views.{UpTo}
-use Rattle.page_core_base.proofs.SinkLemmas.{UpTo-start, UpTo-more, UpTo-within, UpTo-all}
+use Rattle.page_core_base.proofs.LatchLemmas.{UpTo-start, UpTo-more, UpTo-within, UpTo-all}
 use Rattle.page_roff_decoding.specs.Decoding.{line_limit, characters, characters_within, bad_notes}
 use Rattle.page_roff_decoding.specs.laws.Views.{line_limit_is}
 use Rattle.page_roff_decoding.proofs.ScanLemmas.{rest_of}
-use Rattle.page_roff_decoding.proofs.PlainLemmas.{bad_notes-text}
-use Rattle.page_roff_decoding.proofs.ReportLemmas.{bad_notes-front, bad_notes-stop, bad_notes-end}
+use Rattle.page_roff_decoding.proofs.SequenceLemmas.{bad_notes-text, bad_notes-front, bad_notes-stop, bad_notes-end}
 use Rattle.page_roff_decoding.proofs.reporting.report_bad.Goals as goal
 
 pub loop-at-init : goal.loop-at-init

@@ -1,7 +1,7 @@
 use Rattle.std.proofs.Common.{ℕ, ◌+◌, ◌-◌, ◌%◌, ltb, cond, bit_and, refl, arith}
 use Rattle.std.proofs.lemmas.Simd.{zip2_splat, zip2_of_maps, splat_is_map}
 use lib.Bits.{bit_or}
-use Rattle.page_roff_decoding.specs.machine.Scan.{is_stop}
+use Rattle.page_roff_decoding.specs.machine.Fronts.{is_stop}
 use Rattle.page_roff_decoding.proofs.ScanLemmas.{masked}
 use Rattle.page_roff_decoding.proofs.texts.stops.Goals as goal
 

@@ -1,6 +1,6 @@
 use Rattle.std.proofs.Common.{◌≡◌, ◌+◌, ◌-◌, ◌≤◌, length, drop}
 use Rattle.std.specs.List.{prefix_len}
-use Rattle.page_roff_decoding.specs.machine.Scan.{is_text}
+use Rattle.page_roff_decoding.specs.machine.Fronts.{is_text}
 use Rattle.page_roff_decoding.proofs.texts.text_end.Given as goal
 
 abbrev pub invariant-loop-at : goal.invariant-loop-at

@@ -1,6 +1,6 @@
 use Rattle.std.proofs.Common.{sym, ap, ◌∙◌, arith}
 use lib.Count.{count_trailing_zeros}
-use Rattle.page_roff_decoding.specs.machine.Scan.{is_text, is_stop}
+use Rattle.page_roff_decoding.specs.machine.Fronts.{is_text, is_stop}
 use Rattle.page_roff_decoding.proofs.ScanLemmas.{run_bound, not-not, run_through, run_stops}
 use Rattle.page_roff_decoding.proofs.texts.text_len.Goals as goal
 

@@ -1,7 +1,7 @@
 use Rattle.std.proofs.Common.{length}
 use Rattle.page_roff_syntax.specs.Arguments.{arguments}
 use Rattle.page_roff_definitions.specs.Definitions.{closings_notes}
-use Rattle.page_roff_definitions.proofs.Coming.{CameUpTo}
+use Rattle.page_roff_definitions.proofs.ClosingLemmas.{CameUpTo}
 use Rattle.page_roff_definitions.proofs.arguments.report_closings.Given as goal
 
 abbrev pub invariant-loop-argument : goal.invariant-loop-argument

@@ -1,7 +1,7 @@
 use Rattle.std.proofs.Common.{◌≡◌, List, ℕ, [], ◌∷◌, ◌++◌, true, false, refl, ap, sym, ◌∙◌, append_assoc}
 use Rattle.page_roff_syntax.specs.laws.Views.{argument_view}
 use Rattle.page_roff_syntax.specs.Arguments.{argument_value, is_quoted}
-use Rattle.page_roff_definitions.proofs.PackLemmas.{plain_value}
+use Rattle.page_roff_definitions.proofs.ClosingLemmas.{plain_value}
 use Rattle.page_roff_definitions.proofs.calls.append_argument.Goals as goal
 use Rattle.page_roff_definitions.proofs.calls.append_argument.Goals.{then-is_quoted+then-is_some, else-is_quoted, else-is_quoted-via-then-is_quoted+else-is_some, else-is_quoted-via-else-is_quoted}
 

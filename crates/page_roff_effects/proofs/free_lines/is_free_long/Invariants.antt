@@ -1,5 +1,5 @@
 use Rattle.std.proofs.Common.{◌+◌, ◌-◌, ◌≤◌}
-use Rattle.page_roff_effects.specs.machine.FreeLines.{IsFreeFrom}
+use Rattle.page_roff_effects.specs.machine.Acting.{IsFreeFrom}
 use Rattle.page_roff_effects.proofs.free_lines.is_free_long.Given as goal
 
 -- nothing begins before this place

@@ -1,4 +1,4 @@
-use Rattle.page_roff_effects.proofs.GivenLemmas.{is_front}
+use Rattle.page_roff_effects.proofs.CountLemmas.{is_front}
 use Rattle.page_roff_effects.proofs.laws.given_law.Goals as goal
 
 pub returns : goal.returns

@@ -2,7 +2,7 @@ use Rattle.std.proofs.Common.{◌≡◌, ℕ, List, ◌+◌, ◌-◌, length, ta
 use Rattle.std.proofs.lemmas.List.{length-take}
 use Rattle.page_roff_syntax.specs.LineForms.{without_comment}
 use Rattle.page_roff_effects.specs.Lines.{ControlLine}
-use Rattle.page_roff_effects.proofs.ControlLemmas.{uncommented_front, uncommented_short, control_whole}
+use Rattle.page_roff_effects.proofs.FreeLemmas.{uncommented_front, uncommented_short, control_whole}
 use Rattle.page_roff_effects.proofs.leaves.control_line.Goals as goal
 
 pub slice_bounds-result-end : goal.slice_bounds-result-end

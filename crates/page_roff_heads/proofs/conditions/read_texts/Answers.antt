@@ -1,6 +1,6 @@
 use Rattle.std.proofs.Common.{ap, ◌∙◌}
 use Rattle.page_roff_heads.specs.Conditions.{longer}
-use Rattle.page_roff_heads.proofs.Reading.{texts_together}
+use Rattle.page_roff_heads.proofs.Ahead.{texts_together}
 use Rattle.page_roff_heads.proofs.conditions.read_texts.Goals as goal
 
 pub returns-clause-value : goal.returns-clause-value

@@ -1,7 +1,7 @@
 use Rattle.std.proofs.Common.{◌≡◌, ◌+◌, drop, get_or, sym, ◌∙◌, arith, length-drop}
 use Rattle.std.proofs.lemmas.List.{take_rest}
 use Rattle.page_roff_heads.specs.Conditions.{argument_len}
-use Rattle.page_roff_heads.proofs.Reading.{expression_byte, expression_pair, lone_argument}
+use Rattle.page_roff_heads.proofs.Ahead.{expression_byte, expression_pair, lone_argument}
 use Rattle.page_roff_heads.proofs.expressions.step_len.Goals as goal
 
 pub returns-then-text-at-ne92 : goal.returns-then-text-at-ne92

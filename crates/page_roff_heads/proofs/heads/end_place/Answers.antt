@@ -1,7 +1,7 @@
 use Rattle.std.proofs.Common.{◌+◌, ◌∙◌, sym, arith}
 use Rattle.std.proofs.lemmas.Bool.Decides.{nat_tests}
 use Rattle.std.proofs.lemmas.List.{take_rest}
-use Rattle.page_roff_heads.proofs.Reading.{read_first, read_pair, read_comment, read_all, without_ends}
+use Rattle.page_roff_heads.proofs.Ahead.{read_first, read_pair, read_comment, read_all, without_ends}
 use Rattle.page_roff_heads.proofs.heads.end_place.Goals as goal
 
 pub loop-place-init : goal.loop-place-init

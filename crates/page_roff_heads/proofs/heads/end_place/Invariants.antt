@@ -1,5 +1,5 @@
 use Rattle.std.proofs.Common.{◌-◌, length}
-use Rattle.page_roff_heads.proofs.Reading.{IsReadTo}
+use Rattle.page_roff_heads.proofs.Ahead.{IsReadTo}
 use Rattle.page_roff_heads.proofs.heads.end_place.Given as goal
 
 abbrev pub invariant-loop-place : goal.invariant-loop-place

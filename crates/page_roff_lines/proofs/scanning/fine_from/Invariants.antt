@@ -1,5 +1,5 @@
 use Rattle.std.proofs.Common.{◌≡◌, ◌-◌, ◌≤◌, true, length, take}
-use Rattle.page_roff_lines.specs.machine.Run.{IsFine, IsFreeTo}
+use Rattle.page_roff_lines.specs.machine.Open.{IsFine, IsFreeTo}
 use Rattle.page_roff_lines.proofs.scanning.fine_from.Given as goal
 
 -- the bytes before this place are fine, and may be known to be free

@@ -1,6 +1,5 @@
 use Rattle.std.proofs.Common.{arith}
-use Rattle.page_roff_lines.proofs.FreeLines.{front-free, text-front, text-front-free}
-use Rattle.page_roff_lines.proofs.VectorLemmas.{fine-text}
+use Rattle.page_roff_lines.proofs.LineAgreement.{front-free, text-front, text-front-free, fine-text}
 use Rattle.page_roff_lines.proofs.scanning.fine_len.Goals as goal
 
 pub returns-then-not-begins_pair-clause-text : goal.returns-then-not-begins_pair-clause-text

@@ -1,6 +1,6 @@
 use Rattle.std.proofs.Common.{ℕ, ◌^◌, ◌/◌, ◌%◌, nat_eq, [], ◌∷◌, slice_index_or, bit_and, refl}
 use Rattle.std.proofs.lemmas.Bool.{agree_below_at}
-use Rattle.page_roff_lines.specs.machine.Run.{is_quiet}
+use Rattle.page_roff_lines.specs.machine.Open.{is_quiet}
 use Rattle.page_roff_lines.proofs.scanning.is_quiet.Goals as goal
 
 pub returns : goal.returns

@@ -2,11 +2,11 @@ use Rattle.std.proofs.Common.{◌≡◌, ◌+◌, ◌-◌, false, slice_index, i
 use Rattle.std.proofs.lemmas.Bool.{cases_lt}
 use Rattle.std.proofs.lemmas.List.{get_or-drop}
 use Rattle.std.proofs.lemmas.List.Sums.{prefix_len_passes}
-use Rattle.page_roff_decoding.specs.machine.Scan.{is_text}
+use Rattle.page_roff_decoding.specs.machine.Fronts.{is_text}
 use Rattle.page_roff_decoding.proofs.ScanLemmas.{rest_of, text-printable}
 use Rattle.page_roff_lines.specs.declared.Mode.TheVariants.{Plain}
-use Rattle.page_roff_lines.specs.machine.Run.{ends_run}
-use Rattle.page_roff_lines.proofs.VectorLemmas.{text-run}
+use Rattle.page_roff_lines.specs.machine.Open.{ends_run}
+use Rattle.page_roff_lines.proofs.LineAgreement.{text-run}
 use Rattle.page_roff_lines.proofs.scanning.plain_run.Goals as goal
 
 pub returns-then-len-chunk-clause-run : goal.returns-then-len-chunk-clause-run

@@ -1,7 +1,7 @@
 use Rattle.std.proofs.Common.{◌≡◌, ◌-◌, ◌≤◌, length, take, true}
 use Rattle.std.specs.List.{list_all}
 use Rattle.page_roff_decoding.specs.Decoding.{is_printable}
-use Rattle.page_roff_lines.specs.machine.Run.{IsText}
+use Rattle.page_roff_lines.specs.machine.Open.{IsText}
 use Rattle.page_roff_lines.proofs.scanning.run_after.Given as goal
 
 -- the bytes before this place are text

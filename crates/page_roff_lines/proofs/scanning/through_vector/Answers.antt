@@ -1,11 +1,10 @@
 use Rattle.std.specs.Prelude.{◌&&◌}
 use Rattle.std.proofs.Common.{◌≡◌, ℕ, ◌+◌, ◌-◌, ◌^◌, ◌/◌, ◌<◌, ◌≤◌, Bool, true, List, length, take, drop, get_or, refl, sym, ap, ◌∙◌, arith}
 use lib.Count.{count_trailing_zeros}
-use Rattle.page_roff_lines.specs.machine.Run.{BeginsPair, IsFine, IsFreeTo, is_quiet}
-use Rattle.page_roff_lines.proofs.VectorLemmas.{fine-more, fine-pair, fine-stop, fine-through, stop-within, stops-after, stops_from}
+use Rattle.page_roff_lines.specs.machine.Open.{BeginsPair, IsFine, IsFreeTo, is_quiet}
+use Rattle.page_roff_lines.proofs.LineAgreement.{fine-more, fine-pair, fine-stop, fine-through, stop-within, stops-after, stops_from, free-stop, free-through, pair-free}
 use Rattle.page_roff_lines.proofs.scanning.through_vector.Invariants.{IsAt}
 use Rattle.page_roff_decoding.proofs.ScanLemmas.{and_true}
-use Rattle.page_roff_lines.proofs.FreeLines.{free-stop, free-through, pair-free}
 use Rattle.page_roff_lines.proofs.scanning.through_vector.Goals as goal
 
 within : (xs : List ℕ) (from i n mask : ℕ) (free : Bool) → IsAt xs from i n mask free → 0 < mask → i + count_trailing_zeros 64 mask ≤ length xs

@@ -1,6 +1,6 @@
 use Rattle.std.proofs.Common.{◌≡◌, ℕ, ◌+◌, ◌-◌, ◌<◌, ◌≤◌, Bool, true, List, length, take}
-use Rattle.page_roff_lines.specs.machine.Run.{IsFine, IsFreeTo}
-use Rattle.page_roff_lines.proofs.VectorLemmas.{stops_from}
+use Rattle.page_roff_lines.specs.machine.Open.{IsFine, IsFreeTo}
+use Rattle.page_roff_lines.proofs.LineAgreement.{stops_from}
 use Rattle.page_roff_lines.proofs.scanning.through_vector.Given as goal
 
 -- the bytes before this place are fine, and may be known to be free; what is found are the stops of the lanes that are left

@@ -1,4 +1,4 @@
-use Rattle.page_roff_names.proofs.Search.{look_hit, look_miss}
+use Rattle.page_roff_names.proofs.Laid.{look_hit, look_miss}
 use Rattle.page_roff_names.proofs.changes.find.Goals as goal
 
 pub returns-in-Ok : goal.returns-in-Ok

@@ -1,4 +1,4 @@
-use Rattle.page_roff_names.proofs.Search.{look_hit}
+use Rattle.page_roff_names.proofs.Laid.{look_hit}
 use Rattle.page_roff_names.proofs.changes.find_near.Goals as goal
 
 pub returns-then-stands_at : goal.returns-then-stands_at

@@ -1,8 +1,7 @@
 use Rattle.std.proofs.Common.{◌∙◌, sym, refl, arith}
 use Rattle.std.proofs.lemmas.List.Edits.{length-remove}
-use Rattle.page_roff_names.proofs.Search.{put_miss}
-use Rattle.page_roff_names.proofs.Kept.{limits_hit, limits_missed}
-use Rattle.page_roff_names.proofs.Refused.{within}
+use Rattle.page_roff_names.proofs.Laid.{put_miss}
+use Rattle.page_roff_names.proofs.Kept.{limits_hit, limits_missed, within}
 use Rattle.page_roff_names.proofs.changes.move_to.Goals as goal
 
 pub rename-requires-clause-bytes : goal.rename-requires-clause-bytes

@@ -1,7 +1,6 @@
 use Rattle.std.proofs.Common.{◌∙◌, sym, ap, arith, length}
 use Rattle.page_roff_names.proofs.Laid.{size-remove}
-use Rattle.page_roff_names.proofs.Kept.{hit_length, hit_size, miss_length, miss_size}
-use Rattle.page_roff_names.proofs.Refused.{same_limits}
+use Rattle.page_roff_names.proofs.Kept.{hit_length, hit_size, miss_length, miss_size, same_limits}
 use Rattle.page_roff_names.proofs.changes.passed.Goals as goal
 
 pub overflow_sub-bytes : goal.overflow_sub-bytes

@@ -1,7 +1,7 @@
 use Rattle.std.proofs.Common.{◌∙◌, ap, arith, length}
 use Rattle.std.proofs.lemmas.List.Edits.{length-remove}
 use Rattle.page_roff_names.proofs.Laid.{size-remove}
-use Rattle.page_roff_names.proofs.Refused.{same_limits}
+use Rattle.page_roff_names.proofs.Kept.{same_limits}
 use Rattle.page_roff_names.proofs.changes.passed_by_name.Goals as goal
 
 pub overflow_sub-bytes : goal.overflow_sub-bytes

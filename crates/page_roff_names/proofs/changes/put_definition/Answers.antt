@@ -1,8 +1,7 @@
 use Rattle.std.proofs.Common.{◌∙◌, ap, sym, arith}
 use Rattle.std.specs.List.{remove}
 use Rattle.page_roff_names.specs.Names.{size, definition}
-use Rattle.page_roff_names.proofs.Search.{put_hit, put_miss}
-use Rattle.page_roff_names.proofs.Laid.{size-insert}
+use Rattle.page_roff_names.proofs.Laid.{put_hit, put_miss, size-insert}
 use Rattle.page_roff_names.proofs.Kept.{miss_length, miss_size}
 use Rattle.page_roff_names.proofs.changes.put_definition.Goals as goal
 

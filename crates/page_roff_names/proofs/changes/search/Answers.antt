@@ -1,6 +1,6 @@
 use Rattle.std.proofs.Common.{◌∙◌, sym, ap, arith}
 use Rattle.page_roff_names.specs.Names.{by_bytes}
-use Rattle.page_roff_names.proofs.Search.{above_from, below_to}
+use Rattle.page_roff_names.proofs.Laid.{above_from, below_to}
 use Rattle.page_roff_names.proofs.changes.search.Goals as goal
 
 pub loop-low-preserved-in-Less : goal.loop-low-preserved-in-Less

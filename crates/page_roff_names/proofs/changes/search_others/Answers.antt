@@ -1,6 +1,6 @@
 use Rattle.std.proofs.Common.{◌≡◌, subst, arith}
 use Rattle.page_roff_names.specs.machine.Changes.{FoundAt}
-use Rattle.page_roff_names.proofs.Search.{missing_left, missing_itself}
+use Rattle.page_roff_names.proofs.Laid.{missing_left, missing_itself}
 use Rattle.page_roff_names.proofs.changes.search_others.Goals as goal
 
 pub returns-in-Ok-2-clause-found : goal.returns-in-Ok-2-clause-found

@@ -1,6 +1,6 @@
 use Rattle.std.proofs.Common.{◌∙◌, sym, refl, arith}
 use Rattle.page_roff_names.specs.Names.{definition}
-use Rattle.page_roff_names.proofs.Refused.{within}
+use Rattle.page_roff_names.proofs.Kept.{within}
 use Rattle.page_roff_names.proofs.changes.settle.Goals as goal
 
 pub put_definition-requires-clause-few : goal.put_definition-requires-clause-few

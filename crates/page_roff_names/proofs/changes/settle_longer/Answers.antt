@@ -1,7 +1,7 @@
 use Rattle.std.proofs.Common.{◌++◌, ◌≤◌, ◌∙◌, subst, sym, arith, length, length-append}
 use Rattle.page_core_base.specs.declared.limits.TheConstants.{DEFS, NAMES}
 use Rattle.page_roff_names.specs.Names.{definition, size, put}
-use Rattle.page_roff_names.proofs.Refused.{within}
+use Rattle.page_roff_names.proofs.Kept.{within}
 use Rattle.page_roff_names.proofs.changes.settle_longer.Goals as goal
 
 pub append-requires : goal.append-requires

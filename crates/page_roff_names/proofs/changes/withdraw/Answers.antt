@@ -1,5 +1,5 @@
 use Rattle.std.proofs.Common.{◌∙◌, sym}
-use Rattle.page_roff_names.proofs.Search.{without_hit, without_miss}
+use Rattle.page_roff_names.proofs.Laid.{without_hit, without_miss}
 use Rattle.page_roff_names.proofs.changes.withdraw.Goals as goal
 
 pub returns-in-Ok : goal.returns-in-Ok

@@ -2,7 +2,7 @@ use Rattle.std.proofs.Common.{◌≡◌, ◌<◌, ◌∙◌, ap, arith, get_or, 
 use Rattle.page_roff_names.specs.declared.rows.EntryKind.TheVariants.{String}
 use Rattle.page_roff_names.specs.declared.rows.Span.{Span}
 use Rattle.page_roff_names.specs.Names.{definition}
-use Rattle.page_roff_names.specs.machine.Layout.{slice, entry}
+use Rattle.page_roff_names.specs.machine.Changes.{slice, entry}
 use Rattle.page_roff_names.proofs.Laid.{copied_more, room_left, within_at}
 use Rattle.page_roff_names.proofs.rows.gather.Goals as goal
 

@@ -1,5 +1,5 @@
 use Rattle.std.proofs.Common.{arith}
-use Rattle.page_roff_parts.proofs.EndLemmas.{one_more, two_more, lone_end, whole_end}
+use Rattle.page_roff_parts.proofs.BracketLemmas.{one_more, two_more, lone_end, whole_end}
 use Rattle.page_roff_parts.proofs.endings.read_without_lone.Goals as goal
 
 pub loop-at-preserved-then-text-at-eq92 : goal.loop-at-preserved-then-text-at-eq92

@@ -1,5 +1,5 @@
 use Rattle.std.proofs.Common.{sym, arith}
-use Rattle.page_roff_parts.proofs.EndLemmas.{other_end}
+use Rattle.page_roff_parts.proofs.BracketLemmas.{other_end}
 use Rattle.page_roff_parts.proofs.endings.without_lone.Goals as goal
 
 pub returns-in_default : goal.returns-in_default

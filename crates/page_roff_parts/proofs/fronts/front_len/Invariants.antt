@@ -1,5 +1,5 @@
 use Rattle.std.proofs.Common.{◌-◌, ◌≤◌, length}
-use Rattle.page_roff_parts.specs.machine.Fronts.{IsFront}
+use Rattle.page_roff_parts.specs.machine.Verbatim.{IsFront}
 use Rattle.page_roff_parts.proofs.fronts.front_len.Given as goal
 
 abbrev pub invariant-loop-place : goal.invariant-loop-place

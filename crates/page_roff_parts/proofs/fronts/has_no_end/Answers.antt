@@ -1,5 +1,5 @@
 use Rattle.std.proofs.Common.{◌≡◌, ◌∙◌, false, sym}
-use Rattle.page_roff_parts.specs.machine.Brackets.{has_bracket}
+use Rattle.page_roff_parts.specs.machine.Verbatim.{has_bracket}
 use Rattle.page_roff_parts.proofs.FrontLemmas.{lone_escape, lone_register, lone_string, lone_width}
 use Rattle.page_roff_parts.proofs.fronts.has_no_end.Goals as goal
 use Rattle.page_roff_parts.proofs.fronts.has_no_end.Goals.{then-letter-eq42-via-then-letter-eq42, then-letter-eq42-via-else-letter-eq42+then-letter-eq110}

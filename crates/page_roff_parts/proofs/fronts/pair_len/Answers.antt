@@ -1,6 +1,6 @@
 use Rattle.std.proofs.Common.{◌≡◌, drop, sym, ◌∙◌}
 use Rattle.page_roff_syntax.specs.Delimiters.{character_len}
-use Rattle.page_roff_parts.proofs.ReadLemmas.{escape_pair}
+use Rattle.page_roff_parts.proofs.FrontLemmas.{escape_pair}
 use Rattle.page_roff_parts.proofs.fronts.pair_len.Goals as goal
 
 pub has_no_end-requires-clause-lone : goal.has_no_end-requires-clause-lone

@@ -1,6 +1,5 @@
 use Rattle.std.proofs.Common.{◌<◌, false, drop, arith, drop-drop}
-use Rattle.page_roff_parts.proofs.FrontLemmas.{front_part}
-use Rattle.page_roff_parts.proofs.KnownLemmas.{front_pair}
+use Rattle.page_roff_parts.proofs.FrontLemmas.{front_part, front_pair}
 use Rattle.page_roff_parts.proofs.known_fronts.copied_end.Goals as goal
 
 pub pair_len-len-requires-clause-lone : goal.pair_len-len-requires-clause-lone

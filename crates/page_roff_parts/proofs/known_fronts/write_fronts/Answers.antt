@@ -1,6 +1,6 @@
 use Rattle.std.proofs.Common.{◌≡◌, ◌<◌, ◌+◌, ◌-◌, length, arith}
 use Rattle.page_roff_parts.specs.machine.Known.{AreFronts}
-use Rattle.page_roff_parts.proofs.KnownLemmas.{fronts_step, run_before, run_none}
+use Rattle.page_roff_parts.proofs.FrontLemmas.{fronts_step, run_before, run_none}
 use Rattle.page_roff_parts.proofs.known_fronts.write_fronts.Goals as goal
 use Rattle.page_roff_parts.proofs.known_fronts.write_fronts.Goals.{then-text-at-eq92, else-text-at-eq92}
 

@@ -1,6 +1,6 @@
 use Rattle.std.proofs.Common.{◌-◌, ◌≤◌, false, length, drop}
-use Rattle.page_roff_parts.specs.machine.Brackets as brackets
-use Rattle.page_roff_parts.specs.machine.Fronts.{IsFront}
+use Rattle.page_roff_parts.specs.machine.Verbatim as brackets
+use Rattle.page_roff_parts.specs.machine.Verbatim.{IsFront}
 use Rattle.page_roff_parts.specs.machine.Known.{AreFronts, IsRun, StayBefore}
 use Rattle.page_roff_parts.proofs.known_fronts.write_fronts.Given as goal
 

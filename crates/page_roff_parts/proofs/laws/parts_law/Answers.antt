@@ -1,4 +1,4 @@
-use Rattle.page_roff_parts.proofs.ReadLemmas.{parts_more}
+use Rattle.page_roff_parts.proofs.FrontLemmas.{parts_more}
 use Rattle.page_roff_parts.proofs.laws.parts_law.Goals as goal
 
 pub returns : goal.returns

@@ -1,8 +1,8 @@
 use Rattle.std.proofs.Common.{add-zero, ap, arith, ◌∙◌}
 use Rattle.page_roff_parts.specs.Parts.{SeenText}
-use Rattle.page_roff_parts.specs.machine.Views.{seen_of}
+use Rattle.page_roff_parts.specs.machine.Verbatim.{seen_of}
 use Rattle.page_roff_parts.proofs.BracketLemmas.{known_after, known_drop}
-use Rattle.page_roff_parts.proofs.ReadLemmas.{plain_part}
+use Rattle.page_roff_parts.proofs.FrontLemmas.{plain_part}
 use Rattle.page_roff_parts.proofs.parts.read.Goals as goal
 
 pub returns-clause-seen : goal.returns-clause-seen

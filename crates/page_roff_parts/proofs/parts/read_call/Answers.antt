@@ -1,5 +1,5 @@
 use Rattle.std.proofs.Common.{ap, ◌∙◌, Some}
-use Rattle.page_roff_parts.proofs.ReadLemmas.{argument_view}
+use Rattle.page_roff_parts.proofs.FrontLemmas.{argument_view}
 use Rattle.page_roff_parts.proofs.parts.read_call.Goals as goal
 
 pub returns-in-36-clause-seen : goal.returns-in-36-clause-seen

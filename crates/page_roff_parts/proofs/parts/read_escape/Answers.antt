@@ -1,7 +1,7 @@
 use Rattle.std.proofs.Common.{◌+◌, length, add-zero, ◌∙◌, sym}
 use Rattle.std.proofs.Math.Seq.{take-length, drop-length}
-use Rattle.page_roff_parts.specs.machine.Views.{seen_of}
-use Rattle.page_roff_parts.proofs.ReadLemmas.{escape_alone, escape_pair, escape_called, escape_doubled}
+use Rattle.page_roff_parts.specs.machine.Verbatim.{seen_of}
+use Rattle.page_roff_parts.proofs.FrontLemmas.{escape_alone, escape_pair, escape_called, escape_doubled}
 use Rattle.page_roff_parts.proofs.parts.read_escape.Goals as goal
 
 pub returns-then-text-lt2-clause-seen : goal.returns-then-text-lt2-clause-seen

@@ -1,4 +1,4 @@
-use Rattle.page_roff_blocks.specs.machine.LinePlaces.{parts_at}
+use Rattle.page_roff_blocks.specs.machine.Steps.{parts_at}
 use Rattle.page_roff_stack.proofs.InputFrameLemmas.{reads_first, reads_rest}
 use Rattle.page_roff_stack.proofs.ahead.read_ahead.Goals as goal
 

@@ -1,6 +1,6 @@
 use Rattle.std.proofs.Common.{◌==◌, get_or, arith, refl}
 use Rattle.page_roff_values.proofs.ArgumentLemmas.{first_of, not_true}
-use Rattle.page_roff_stack.proofs.LineLemmas.{one_line}
+use Rattle.page_roff_stack.proofs.InputStackLemmas.{one_line}
 use Rattle.page_roff_stack.proofs.input_frames.body_line_len.Goals as goal
 
 pub returns-in-Some-clause-first : goal.returns-in-Some-clause-first

@@ -1,7 +1,7 @@
 use Rattle.std.proofs.Common.{◌≡◌}
 use Rattle.page_roff_values.specs.Values.{lines_in}
-use Rattle.page_roff_stack.specs.machine.Held.{only_line}
-use Rattle.page_roff_stack.proofs.LineLemmas.{whole_line}
+use Rattle.page_roff_stack.specs.machine.Stacks.{only_line}
+use Rattle.page_roff_stack.proofs.InputStackLemmas.{whole_line}
 use Rattle.page_roff_stack.proofs.input_frames.line_len.Goals as goal
 
 pub returns-in-Page-clause-first : goal.returns-in-Page-clause-first

@@ -1,5 +1,5 @@
 use Rattle.std.proofs.Common.{sym, ◌∙◌}
-use Rattle.page_roff_stack.proofs.LineLemmas.{rest_before, rest_none}
+use Rattle.page_roff_stack.proofs.InputStackLemmas.{rest_before, rest_none}
 use Rattle.page_roff_stack.proofs.input_frames.pass_line.Goals as goal
 use Rattle.page_roff_stack.proofs.input_frames.pass_line.Goals.{then-line-lines, else-line-lines}
 

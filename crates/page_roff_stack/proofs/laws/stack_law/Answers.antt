@@ -1,4 +1,4 @@
-use Rattle.page_roff_stack.proofs.StackLemmas.{next_steps}
+use Rattle.page_roff_stack.proofs.InputStackLemmas.{next_steps}
 use Rattle.page_roff_stack.proofs.laws.stack_law.Goals as goal
 
 pub returns : goal.returns

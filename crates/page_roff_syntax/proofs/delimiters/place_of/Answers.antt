@@ -1,7 +1,7 @@
 use Rattle.std.proofs.Common.{◌≡◌, ◌+◌, drop, ap, arith, sym, ◌∙◌, length-drop, drop-drop}
 use Rattle.std.proofs.lemmas.List.{take_rest}
 use Rattle.page_roff_syntax.specs.Delimiters.{place_of}
-use Rattle.page_roff_syntax.proofs.DelimiterLemmas.{reached, place_here, occurs_here, absent_before, found_below, not_found}
+use Rattle.page_roff_syntax.proofs.ClosedLemmas.{reached, place_here, occurs_here, absent_before, found_below, not_found}
 use Rattle.page_roff_syntax.proofs.delimiters.place_of.Goals as goal
 
 pub returns-in-None-clause-value : goal.returns-in-None-clause-value

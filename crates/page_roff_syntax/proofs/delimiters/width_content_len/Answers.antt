@@ -1,6 +1,6 @@
 use Rattle.std.proofs.Common.{sym, refl, ◌∙◌}
 use Rattle.page_roff_syntax.specs.Delimiters.{width_content_len}
-use Rattle.page_roff_syntax.proofs.DelimiterLemmas.{width_content}
+use Rattle.page_roff_syntax.proofs.ClosedLemmas.{width_content}
 use Rattle.page_roff_syntax.proofs.delimiters.width_content_len.Goals as goal
 
 pub returns-clause-value : goal.returns-clause-value

@@ -1,5 +1,5 @@
 use Rattle.std.proofs.Common.{sym, ◌∙◌, arith}
-use Rattle.page_roff_syntax.proofs.EndLemmas.{kept_less, kept_same, kept_nothing}
+use Rattle.page_roff_syntax.proofs.ClosedLemmas.{kept_less, kept_same, kept_nothing}
 use Rattle.page_roff_syntax.proofs.ends.kept_len.Goals as goal
 use Rattle.page_roff_syntax.proofs.ends.kept_len.Goals.{then-loop-len-test+else-drops, else-loop-len-test}
 

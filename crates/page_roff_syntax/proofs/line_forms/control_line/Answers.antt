@@ -1,6 +1,6 @@
 use Rattle.std.proofs.Common.{drop, refl}
 use Rattle.std.proofs.lemmas.List.{take_rest}
-use Rattle.page_roff_syntax.proofs.ControlLemmas.{uncommented_control}
+use Rattle.page_roff_syntax.proofs.ClosedLemmas.{uncommented_control}
 use Rattle.page_roff_syntax.proofs.line_forms.control_line.Goals as goal
 
 pub returns-clause-value : goal.returns-clause-value

@@ -1,6 +1,6 @@
 use Rattle.std.proofs.Common.{drop, refl, sym, ◌∙◌}
 use Rattle.std.proofs.lemmas.List.{take_rest}
-use Rattle.page_roff_syntax.proofs.ControlLemmas.{control_named}
+use Rattle.page_roff_syntax.proofs.ClosedLemmas.{control_named}
 use Rattle.page_roff_syntax.proofs.line_forms.control_name.Goals as goal
 
 pub returns : goal.returns

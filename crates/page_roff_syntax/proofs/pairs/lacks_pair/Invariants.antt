@@ -1,5 +1,5 @@
 use Rattle.std.proofs.Common.{◌≡◌, ℕ, ◌<◌, ◌-◌, false, length}
-use Rattle.page_roff_syntax.specs.machine.Pairs.{pair_at}
+use Rattle.page_roff_syntax.specs.machine.Closed.{pair_at}
 use Rattle.page_roff_syntax.proofs.pairs.lacks_pair.Given as goal
 
 -- no pair begins before this place

@@ -1,6 +1,6 @@
 use Rattle.std.proofs.Common.{rules, ◌≡◌, ◌++◌, encode_utf8, ap, ◌∙◌, arith}
 use Rattle.page_core_numbers.specs.Columns.{characters_columns, printed_escape}
-use Rattle.page_core_numbers.proofs.ColumnLemmas.{front-of_escape, past-character, past-front}
+use Rattle.page_core_numbers.proofs.ExpressionLemmas.{front-of_escape, past-character, past-front}
 use Rattle.page_roff_values.proofs.fronts.read_first.Goals as goal
 
 pub returns-then-first-ne92 : goal.returns-then-first-ne92

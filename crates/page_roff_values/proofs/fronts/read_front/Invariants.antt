@@ -1,7 +1,7 @@
 use Rattle.std.proofs.Common.{◌+◌, ◌*◌, ◌≤◌, length}
 use denote.Text.{Utf8}
 use denote.Shadow.{shadow}
-use Rattle.page_core_numbers.specs.machine.Fronts.{Left}
+use Rattle.page_core_numbers.specs.machine.Signs.{Left}
 use Rattle.page_roff_values.proofs.fronts.read_front.Given as goal
 
 -- what is left is text, and its columns are those that are still to come

@@ -7,7 +7,7 @@ use Rattle.page_scopes_layout.specs.Contexts.{display_begun}
 use Rattle.page_scopes_phrases.specs.Phrases.{in_context, after_notes}
 use Rattle.page_scopes_phrases.specs.laws.Views.{GivesOutcome}
 use Rattle.page_sets_lines.specs.laws.Events.{given_view}
-use Rattle.page_scopes_blocks.proofs.BlockLemmas.{came_after}
+use Rattle.page_scopes_blocks.proofs.ListLemmas.{came_after}
 use Rattle.page_scopes_blocks.proofs.blocks.begin_display.Goals as goal
 
 pub returns : goal.returns

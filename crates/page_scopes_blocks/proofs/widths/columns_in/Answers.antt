@@ -1,5 +1,5 @@
 use Rattle.std.proofs.Common.{refl}
-use Rattle.page_sets_lines.proofs.OrderLemmas.{all_arguments}
+use Rattle.page_sets_lines.proofs.ArgumentLaws.{all_arguments}
 use Rattle.page_scopes_blocks.proofs.widths.columns_in.Goals as goal
 
 pub loop-word-init : goal.loop-word-init

@@ -1,6 +1,6 @@
 use Rattle.std.proofs.Common.{◌≡◌, length}
 use Rattle.std.specs.Prelude.{fold}
-use Rattle.page_sets_lines.proofs.OrderLemmas.{AreArguments}
+use Rattle.page_sets_lines.proofs.ArgumentLaws.{AreArguments}
 use Rattle.page_sets_lines.specs.Blocks.{columns_after}
 use Rattle.page_sets_lines.specs.laws.Views.{options_view}
 use Rattle.page_scopes_blocks.specs.Lists.{columns_of, one_more}

@@ -1,5 +1,5 @@
 use Rattle.page_core_base.specs.laws.Views.{line_view}
-use Rattle.page_sets_lines.proofs.SliceLemmas.{first_fits}
+use Rattle.page_sets_lines.proofs.ArgumentLaws.{first_fits}
 use Rattle.page_sets_lines.specs.laws.Events.{event_view}
 use Rattle.page_scopes_checks.proofs.set_tests.give_line.Goals as goal
 

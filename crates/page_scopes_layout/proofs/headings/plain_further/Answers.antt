@@ -1,5 +1,5 @@
 use Rattle.std.proofs.Common.{refl}
-use Rattle.page_core_base.proofs.CharacterLemmas.{characters_of-text, characters_of-none}
+use Rattle.page_core_base.proofs.LatchLemmas.{characters_of-text, characters_of-none}
 use Rattle.page_scopes_layout.proofs.headings.plain_further.Goals as goal
 
 pub returns-in-Ok : goal.returns-in-Ok

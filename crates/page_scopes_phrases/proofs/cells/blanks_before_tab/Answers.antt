@@ -1,4 +1,4 @@
-use Rattle.page_scopes_phrases.proofs.CellLemmas.{span-ahead}
+use Rattle.page_scopes_phrases.proofs.NameLemmas.{span-ahead}
 use Rattle.page_scopes_phrases.proofs.cells.blanks_before_tab.Goals as goal
 
 pub returns-then-text-blanks-eq9-clause-value : goal.returns-then-text-blanks-eq9-clause-value

@@ -4,7 +4,7 @@ use Rattle.std.proofs.lemmas.List.{take_rest}
 use Rattle.page_core_escapes.specs.Tokens.{is_space, token_at, token_bytes, tokens_of}
 use Rattle.page_core_escapes.specs.laws.Views.{token_view}
 use Rattle.page_scopes_phrases.specs.LineWords.{before_blanks, tab_in}
-use Rattle.page_scopes_phrases.proofs.CellLemmas.{blanks_found, blanks_none, end_by, end_more, end_within, span_is, tab_found, tab_more, tab_none}
+use Rattle.page_scopes_phrases.proofs.NameLemmas.{blanks_found, blanks_none, end_by, end_more, end_within, span_is, tab_found, tab_more, tab_none}
 use Rattle.page_scopes_phrases.specs.declared.cells.CellSpan.{CellSpan}
 use Rattle.page_scopes_phrases.proofs.cells.find_cell.Goals as goal
 

@@ -2,7 +2,7 @@ use Rattle.std.proofs.Common.{◌≡◌, ◌≤◌, ◌+◌, ◌-◌, length}
 use Rattle.page_core_escapes.specs.Tokens.{tokens_of}
 use Rattle.page_core_base.specs.declared.limits.TheConstants.{LINE}
 use Rattle.page_scopes_phrases.specs.LineWords.{before_blanks, before_tab}
-use Rattle.page_scopes_phrases.proofs.CellLemmas.{end_by}
+use Rattle.page_scopes_phrases.proofs.NameLemmas.{end_by}
 use Rattle.page_scopes_phrases.proofs.cells.find_cell.Given as goal
 
 abbrev pub invariant-loop-rest : goal.invariant-loop-rest

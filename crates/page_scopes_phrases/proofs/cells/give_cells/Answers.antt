@@ -5,7 +5,7 @@ use Rattle.page_sets_lines.specs.laws.Views.{FitsAt}
 use Rattle.page_scopes_phrases.specs.laws.Views.{GivesOutcome, phrase_view}
 use Rattle.page_scopes_phrases.specs.declared.cells.CellSpan.{CellSpan}
 use Rattle.page_scopes_phrases.specs.declared.phrases.Phrase.{Phrase}
-use Rattle.page_scopes_phrases.proofs.CellLemmas.{CellsLeft, cells-end, cells-go-on, is_before, is_not_before, others-fit, others-shorter}
+use Rattle.page_scopes_phrases.proofs.NameLemmas.{CellsLeft, cells-end, cells-go-on, is_before, is_not_before, others-fit, others-shorter}
 use Rattle.page_scopes_phrases.proofs.cells.give_cells.Goals as goal
 
 pub find_cell-span-requires-in-loop-span : goal.find_cell-span-requires-in-loop-span

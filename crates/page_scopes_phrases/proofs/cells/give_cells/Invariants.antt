@@ -2,7 +2,7 @@ use Rattle.std.proofs.Common.{◌≡◌, ◌≤◌, length}
 use Rattle.page_scopes_phrases.specs.LineWords.{cells, span}
 use Rattle.page_sets_lines.specs.laws.Views.{FitsAt}
 use Rattle.page_scopes_phrases.specs.laws.Views.{phrase_view}
-use Rattle.page_scopes_phrases.proofs.CellLemmas.{CellsLeft}
+use Rattle.page_scopes_phrases.proofs.NameLemmas.{CellsLeft}
 use Rattle.page_scopes_phrases.proofs.cells.give_cells.Given as goal
 
 abbrev pub invariant-loop-span : goal.invariant-loop-span

@@ -1,7 +1,7 @@
 use Rattle.std.proofs.Common.{◌+◌, ◌≤◌, length, drop, get_or, sym, arith}
 use Rattle.std.proofs.lemmas.List.{drop_all, drop_more}
 use Rattle.page_scopes_phrases.specs.LineWords.{white_columns}
-use Rattle.page_scopes_phrases.proofs.CellLemmas.{white-goes-on}
+use Rattle.page_scopes_phrases.proofs.NameLemmas.{white-goes-on}
 use Rattle.page_scopes_phrases.proofs.cells.give_white_columns.Goals as goal
 
 pub loop-byte-preserved : goal.loop-byte-preserved

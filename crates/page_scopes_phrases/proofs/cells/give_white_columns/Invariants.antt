@@ -1,6 +1,6 @@
 use Rattle.std.proofs.Common.{drop}
 use Rattle.page_scopes_phrases.specs.LineWords.{white_columns}
-use Rattle.page_scopes_phrases.proofs.CellLemmas.{OutcomeLeft}
+use Rattle.page_scopes_phrases.proofs.NameLemmas.{OutcomeLeft}
 use Rattle.page_scopes_phrases.proofs.cells.give_white_columns.Given as goal
 
 abbrev pub invariant-loop-byte : goal.invariant-loop-byte

@@ -1,7 +1,7 @@
 use Rattle.std.proofs.Common.{◌≡◌, ◌-◌, ◌<◌, length, take, sym, ◌∙◌, append_assoc, arith}
 use Rattle.std.proofs.lemmas.Bool.Decides.{nat_tests}
 use Rattle.page_scopes_text.proofs.KeptTextLemmas.{front_of, kept_some}
-use Rattle.page_scopes_text.specs.machine.Kept.{kept_pen}
+use Rattle.page_scopes_text.specs.machine.Letters.{kept_pen}
 use Rattle.page_scopes_text.proofs.kept_texts.give_kept_words.Goals as goal
 
 -- none of them were taken

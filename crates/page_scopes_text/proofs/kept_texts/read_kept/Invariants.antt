@@ -1,6 +1,6 @@
 use Rattle.std.proofs.Common.{◌≡◌, ◌≤◌, false, length}
 use Rattle.page_core_escapes.specs.laws.Views.{begins_word}
-use Rattle.page_scopes_text.specs.machine.Kept.{ReadsKept}
+use Rattle.page_scopes_text.specs.machine.Letters.{ReadsKept}
 use Rattle.page_scopes_text.proofs.kept_texts.read_kept.Given as goal
 
 abbrev pub invariant-loop-style : goal.invariant-loop-style

@@ -2,7 +2,7 @@ use Rattle.std.proofs.Common.{◌≡◌, ◌<◌, ◌+◌, true, length, drop, a
 use Rattle.std.proofs.lemmas.List.{take_rest}
 use Rattle.page_core_escapes.specs.laws.Views.{begins_word}
 use Rattle.page_core_escapes.specs.Tokens.{token_at, token_bytes, tokens_len}
-use Rattle.page_core_escapes.proofs.TokenLemmas.{word_some}
+use Rattle.page_core_escapes.proofs.Unwinding.{word_some}
 use Rattle.page_scopes_text.proofs.PartedLemmas.{no_word, others_same, words_more}
 use Rattle.page_scopes_text.specs.Texts.{Parted, words_of}
 use Rattle.page_scopes_text.proofs.last_words.after_word.Goals as goal

@@ -2,9 +2,8 @@ use Rattle.std.proofs.Common.{◌≤◌, ◌<◌, ◌+◌, ◌-◌, length, ap, 
 use Rattle.std.proofs.lemmas.Bool.Decides.{nat_tests}
 use Rattle.std.proofs.lemmas.List.{take_rest}
 use Rattle.page_core_escapes.specs.Tokens.{token_bytes}
-use Rattle.page_scopes_text.proofs.LastWordLemmas.{Passes, front_passed, passed_end, passed_word}
+use Rattle.page_scopes_text.proofs.TextLemmas.{Passes, front_passed, passed_end, passed_word, no_others}
 use Rattle.page_scopes_text.proofs.PartedLemmas.{white_front}
-use Rattle.page_scopes_text.proofs.TextLemmas.{no_others}
 use Rattle.page_scopes_text.specs.Texts.{last_of}
 use Rattle.page_scopes_text.proofs.last_words.last_word.Goals as goal
 

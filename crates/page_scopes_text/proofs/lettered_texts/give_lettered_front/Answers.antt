@@ -1,4 +1,4 @@
-use Rattle.page_scopes_text.proofs.LetteredTextLemmas.{front_came, front_pen}
+use Rattle.page_scopes_text.proofs.KeptTextLemmas.{front_came, front_pen}
 use Rattle.page_scopes_text.proofs.lettered_texts.give_lettered_front.Goals as goal
 
 pub returns-clause-came : goal.returns-clause-came

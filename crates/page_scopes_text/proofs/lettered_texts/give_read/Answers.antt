@@ -2,8 +2,8 @@ use Rattle.std.proofs.Common.{◌≡◌, ◌+◌, List, [], ◌∷◌, ◌++◌,
 use Rattle.page_core_base.specs.declared.cells.Cell.{Cell}
 use Rattle.page_core_base.specs.declared.cells.Font.TheVariants.{R}
 use Rattle.page_scopes_words.specs.machine.Letters.{letters_in}
-use Rattle.page_scopes_text.proofs.LetteredWordLemmas.{adds_join}
-use Rattle.page_scopes_text.proofs.LetteredTextLemmas.{front_adds, front_left}
+use Rattle.page_scopes_text.proofs.RunWordLemmas.{adds_join}
+use Rattle.page_scopes_text.proofs.KeptTextLemmas.{front_adds, front_left}
 use Rattle.page_scopes_text.specs.machine.Letters.{AddsWords}
 use Rattle.page_scopes_text.proofs.lettered_texts.give_read.Goals as goal
 

@@ -3,7 +3,7 @@ use Rattle.std.proofs.lemmas.List.{length-drop, take_rest}
 use Rattle.page_core_base.specs.declared.cells.Font.TheVariants.{R}
 use Rattle.page_scopes_words.proofs.RunEndLemmas.{all_printable}
 use Rattle.page_scopes_words.specs.machine.Letters.{letters_in}
-use Rattle.page_scopes_text.proofs.LetteredTextLemmas.{front_left, whole_reads}
+use Rattle.page_scopes_text.proofs.KeptTextLemmas.{front_left, whole_reads}
 use Rattle.page_scopes_text.proofs.lettered_texts.give_whole.Goals as goal
 
 pub give_after_blanks-requires-clause-ascii : goal.give_after_blanks-requires-clause-ascii

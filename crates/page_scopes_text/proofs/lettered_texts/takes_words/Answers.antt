@@ -1,5 +1,5 @@
 use Rattle.std.proofs.Common.{[], refl}
-use Rattle.page_scopes_text.proofs.LetteredTextLemmas.{none_given}
+use Rattle.page_scopes_text.proofs.KeptTextLemmas.{none_given}
 use Rattle.page_scopes_text.proofs.lettered_texts.takes_words.Goals as goal
 
 pub returns : goal.returns

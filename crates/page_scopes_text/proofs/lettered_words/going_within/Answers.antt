@@ -1,6 +1,6 @@
 use Rattle.std.proofs.Common.{◌≡◌, ◌+◌, ◌<◌, ℕ, suc, get_or, take, ap₂, sym, ◌∙◌, arith}
 use Rattle.std.proofs.lemmas.List.{get_or-take}
-use Rattle.page_scopes_words.specs.machine.RunEnds.{ends_run}
+use Rattle.page_scopes_words.specs.machine.Letters.{ends_run}
 use Rattle.page_scopes_text.proofs.lettered_words.going_within.Goals as goal
 
 pub returns-clause-goes : goal.returns-clause-goes

@@ -1,6 +1,6 @@
 use Rattle.std.proofs.Common.{◌≡◌, length, sym, ◌∙◌, arith}
 use Rattle.std.proofs.lemmas.Bool.Decides.{nat_tests}
-use Rattle.page_scopes_text.proofs.LetterLemmas.{one_part_of, plain_part}
+use Rattle.page_scopes_text.proofs.PartedLemmas.{one_part_of, plain_part}
 use Rattle.page_scopes_text.proofs.lettered_words.is_one_part.Goals as goal
 
 pub returns-then-are_plain : goal.returns-then-are_plain

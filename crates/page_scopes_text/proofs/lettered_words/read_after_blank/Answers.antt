@@ -1,6 +1,6 @@
 use Rattle.std.proofs.Common.{arith}
 use Rattle.std.proofs.lemmas.Bool.Decides.{nat_tests}
-use Rattle.page_scopes_text.proofs.LetteredWordLemmas.{word_adds}
+use Rattle.page_scopes_text.proofs.RunWordLemmas.{word_adds}
 use Rattle.page_scopes_text.proofs.lettered_words.read_after_blank.Goals as goal
 
 pub returns-clause-reads : goal.returns-clause-reads

@@ -1,7 +1,7 @@
 use Rattle.std.proofs.Common.{◌<◌, length, refl, arith}
 use Rattle.std.proofs.lemmas.Bool.Decides.{nat_tests}
 use Rattle.std.proofs.lemmas.List.{take_rest}
-use Rattle.page_scopes_text.proofs.LetteredWordLemmas.{blank_adds}
+use Rattle.page_scopes_text.proofs.RunWordLemmas.{blank_adds}
 use Rattle.page_scopes_text.proofs.lettered_words.read_blank_letters.Goals as goal
 
 pub returns-clause-reads : goal.returns-clause-reads

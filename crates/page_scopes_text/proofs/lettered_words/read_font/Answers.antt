@@ -1,7 +1,7 @@
 use Rattle.std.proofs.Common.{sym}
 use Rattle.std.proofs.lemmas.List.{take_rest}
 use Rattle.page_core_escapes.specs.laws.Views.{face_view}
-use Rattle.page_scopes_text.proofs.LetterTokenLemmas.{font_reads}
+use Rattle.page_scopes_text.proofs.PartedLemmas.{font_reads}
 use Rattle.page_scopes_text.proofs.lettered_words.read_font.Goals as goal
 
 pub returns : goal.returns

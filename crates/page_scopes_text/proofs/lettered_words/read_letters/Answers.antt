@@ -1,7 +1,7 @@
 use Rattle.std.proofs.Common.{◌≡◌, [], ◌++◌, true, sym, ap, ◌∙◌, refl, append-nil, append_assoc}
 use Rattle.page_core_escapes.specs.laws.Views.{begins_word}
 use Rattle.page_core_escapes.specs.Tokens.{token_len}
-use Rattle.page_scopes_text.proofs.LetterLemmas.{letters_more, letters_none}
+use Rattle.page_scopes_text.proofs.PartedLemmas.{letters_more, letters_none}
 use Rattle.page_scopes_words.specs.machine.Letters.{letters_in}
 use Rattle.page_scopes_text.proofs.lettered_words.read_letters.Goals as goal
 

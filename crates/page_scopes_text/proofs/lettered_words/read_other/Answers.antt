@@ -1,7 +1,7 @@
 use Rattle.std.proofs.Common.{◌≡◌, ◌<◌, length, drop, refl, sym, ap, ◌∙◌, arith}
 use Rattle.std.proofs.lemmas.List.{take_rest}
 use Rattle.page_core_escapes.specs.Tokens.{token_bytes, token_len}
-use Rattle.page_scopes_text.proofs.LetterLemmas.{begins_some, plain_letters}
+use Rattle.page_scopes_text.proofs.PartedLemmas.{begins_some, plain_letters}
 use Rattle.page_scopes_text.specs.machine.Letters.{ReadsToken}
 use Rattle.page_scopes_text.proofs.lettered_words.read_other.Goals as goal
 

@@ -1,4 +1,4 @@
-use Rattle.page_scopes_text.proofs.LetteredWordLemmas.{adds_join, adds_none}
+use Rattle.page_scopes_text.proofs.RunWordLemmas.{adds_join, adds_none}
 use Rattle.page_scopes_text.proofs.lettered_words.read_words.Goals as goal
 
 pub loop-after-init : goal.loop-after-init

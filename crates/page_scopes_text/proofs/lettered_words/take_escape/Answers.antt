@@ -1,5 +1,5 @@
 use Rattle.std.proofs.Common.{[], ◌∷◌}
-use Rattle.page_scopes_text.proofs.LetterLemmas.{char_lettered}
+use Rattle.page_scopes_text.proofs.PartedLemmas.{char_lettered}
 use Rattle.page_scopes_text.proofs.lettered_words.take_escape.Goals as goal
 
 pub returns-in-Char-clause-taken : goal.returns-in-Char-clause-taken

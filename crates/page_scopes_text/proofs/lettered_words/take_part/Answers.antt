@@ -1,5 +1,5 @@
 use Rattle.std.proofs.Common.{refl}
-use Rattle.page_scopes_text.proofs.LetterLemmas.{plain_lettered}
+use Rattle.page_scopes_text.proofs.PartedLemmas.{plain_lettered}
 use Rattle.page_scopes_text.proofs.lettered_words.take_part.Goals as goal
 
 pub returns-clause-taken : goal.returns-clause-taken

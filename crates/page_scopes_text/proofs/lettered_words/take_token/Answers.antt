@@ -1,5 +1,5 @@
 use Rattle.std.proofs.Common.{[], ◌∷◌}
-use Rattle.page_scopes_text.proofs.LetterLemmas.{quote_lettered}
+use Rattle.page_scopes_text.proofs.PartedLemmas.{quote_lettered}
 use Rattle.page_scopes_text.proofs.lettered_words.take_token.Goals as goal
 
 pub returns-in-Quotes-clause-taken : goal.returns-in-Quotes-clause-taken

@@ -1,6 +1,6 @@
 use Rattle.std.proofs.Common.{◌<◌, ◌≤◌, arith, length}
 use Rattle.std.proofs.lemmas.Bool.Decides.{nat_tests}
-use Rattle.page_scopes_text.proofs.PartLemmas.{later_more, no_later}
+use Rattle.page_scopes_text.proofs.PartedLemmas.{later_more, no_later}
 use Rattle.page_scopes_text.proofs.parts.give_later.Goals as goal
 
 pub loop-rest-preserved : goal.loop-rest-preserved

@@ -1,6 +1,6 @@
 use Rattle.std.proofs.Common.{length}
 use Rattle.page_core_base.specs.laws.Views.{CameUpTo}
-use Rattle.page_scopes_text.specs.machine.Parts.{later_items}
+use Rattle.page_scopes_text.specs.machine.Letters.{later_items}
 use Rattle.page_scopes_text.proofs.parts.give_later.Given as goal
 
 abbrev pub invariant-loop-rest : goal.invariant-loop-rest

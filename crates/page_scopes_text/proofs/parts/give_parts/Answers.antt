@@ -1,6 +1,6 @@
 use Rattle.std.proofs.Common.{◌≤◌, arith, length}
 use Rattle.std.proofs.lemmas.Bool.Decides.{nat_tests}
-use Rattle.page_scopes_text.proofs.PartLemmas.{no_later, no_parts}
+use Rattle.page_scopes_text.proofs.PartedLemmas.{no_later, no_parts}
 use Rattle.page_scopes_text.proofs.parts.give_parts.Goals as goal
 
 pub returns-then-is_empty : goal.returns-then-is_empty

@@ -2,7 +2,7 @@ use Rattle.std.proofs.Common.{◌≡◌, ◌<◌, true, false, length, ap, sym, 
 use Rattle.std.proofs.lemmas.List.{take_rest}
 use Rattle.page_core_escapes.specs.laws.Views.{begins_word}
 use Rattle.page_core_escapes.specs.Tokens.{is_space, token_bytes}
-use Rattle.page_core_escapes.proofs.TokenLemmas.{word_some}
+use Rattle.page_core_escapes.proofs.Unwinding.{word_some}
 use Rattle.page_scopes_text.proofs.PartedLemmas.{front_not_space, no_word, others_same, pen_more, tokens_more}
 use Rattle.page_scopes_words.specs.Words.{pen_through}
 use Rattle.page_scopes_text.proofs.words.give_tokens.Goals as goal

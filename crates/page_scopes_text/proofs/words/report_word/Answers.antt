@@ -3,7 +3,7 @@ use Rattle.std.proofs.lemmas.List.{take_rest}
 use Rattle.page_core_base.specs.declared.places.Place.{Place}
 use Rattle.page_core_escapes.specs.laws.Views.{begins_word}
 use Rattle.page_core_escapes.specs.Tokens.{token_at, token_bytes, token_len}
-use Rattle.page_core_escapes.proofs.TokenLemmas.{word_some}
+use Rattle.page_core_escapes.proofs.Unwinding.{word_some}
 use Rattle.page_scopes_text.proofs.PartedLemmas.{words_more, no_word}
 use Rattle.page_scopes_text.specs.Texts.{Parted, words_of}
 use Rattle.page_scopes_words.specs.Words.{token_notes, tokens_notes}

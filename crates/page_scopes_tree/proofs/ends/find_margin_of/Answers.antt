@@ -1,6 +1,6 @@
 use Rattle.std.proofs.Common.{◌≡◌, ◌==◌, true, false, sym, ◌∙◌, rules}
 use Rattle.page_scopes_labels.specs.Labels.{is_margin}
-use Rattle.page_scopes_tree.proofs.MarginLemmas.{from_start, margin_goes_on, margin_counts, margin_found, margin_missing}
+use Rattle.page_scopes_tree.proofs.RunLemmas.{from_start, margin_goes_on, margin_counts, margin_found, margin_missing}
 use Rattle.page_scopes_tree.proofs.ends.find_margin_of.Goals as goal
 use Rattle.page_scopes_tree.proofs.ends.find_margin_of.Goals.{then-is_margin+else-more-eq1, else-is_margin}
 

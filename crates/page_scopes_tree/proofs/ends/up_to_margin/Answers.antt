@@ -1,6 +1,6 @@
 use Rattle.std.proofs.Common.{length, w32, ap, ◌∙◌, sym, rules, FitsSigned}
 use Rattle.std.proofs.lemmas.Int.{to_z-of_z}
-use Rattle.page_scopes_tree.proofs.MarginLemmas.{but_outside, margin_by_number}
+use Rattle.page_scopes_tree.proofs.RunLemmas.{but_outside, margin_by_number}
 use Rattle.page_scopes_tree.proofs.ends.up_to_margin.Goals as goal
 
 pub returns-in-Some : goal.returns-in-Some

@@ -1,4 +1,4 @@
-use Rattle.page_scopes_tree.proofs.EventLemmas.{events_items-append, events_edge-append, events_edge-fits, page_items-append}
+use Rattle.page_scopes_tree.proofs.EdgeLemmas.{events_items-append, events_edge-append, events_edge-fits, page_items-append}
 use Rattle.page_scopes_tree.proofs.laws.events_law.Goals as goal
 
 pub returns : goal.returns

@@ -1,6 +1,6 @@
-use Rattle.page_scopes_tree.proofs.PartLemmas.{tree-part}
+use Rattle.page_scopes_tree.proofs.EdgeLemmas.{tree-part}
 use Rattle.page_scopes_tree.proofs.FitLemmas.{scopes-sound}
-use Rattle.page_scopes_tree.specs.machine.Nests.{scopes_nesting}
+use Rattle.page_scopes_tree.specs.machine.Stacks.{scopes_nesting}
 use Rattle.page_scopes_tree.proofs.laws.tree_law.Goals as goal
 
 pub returns : goal.returns

@@ -1,4 +1,4 @@
-use Rattle.page_scopes_tree.proofs.AsideLemmas.{sound_with, act_items, act_step, aside_items, aside_step}
+use Rattle.page_scopes_tree.proofs.EdgeLemmas.{sound_with, act_items, act_step, aside_items, aside_step}
 use Rattle.page_scopes_tree.proofs.nestings.asides_law.Goals as goal
 
 pub returns : goal.returns

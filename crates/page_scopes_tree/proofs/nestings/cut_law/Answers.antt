@@ -1,4 +1,4 @@
-use Rattle.page_scopes_tree.proofs.CutLemmas.{settled-append, edge-append}
+use Rattle.page_scopes_tree.proofs.EdgeLemmas.{settled-append, edge-append}
 use Rattle.page_scopes_tree.proofs.nestings.cut_law.Goals as goal
 
 pub returns : goal.returns

@@ -1,4 +1,4 @@
-use Rattle.page_scopes_tree.proofs.PartLemmas.{tree-part}
+use Rattle.page_scopes_tree.proofs.EdgeLemmas.{tree-part}
 use Rattle.page_scopes_tree.proofs.nestings.part_law.Goals as goal
 
 pub returns : goal.returns

@@ -1,5 +1,4 @@
-use Rattle.page_scopes_tree.proofs.CutLemmas.{edge-fits}
-use Rattle.page_scopes_tree.proofs.EdgeLemmas.{edge-run}
+use Rattle.page_scopes_tree.proofs.EdgeLemmas.{edge-fits, edge-run}
 use Rattle.page_scopes_tree.proofs.RunLemmas.{settled-run}
 use Rattle.page_scopes_tree.proofs.nestings.stack_law.Goals as goal
 

@@ -1,7 +1,7 @@
 use Rattle.std.proofs.Common.{◌≡◌, ◌≤◌, ◌+◌, length, reverse, take}
 use Rattle.std.specs.List.{prefix_len}
 use Rattle.page_scopes_tree.specs.laws.Views.{labels}
-use Rattle.page_scopes_tree.specs.machine.Runs.{run_takes}
+use Rattle.page_scopes_tree.specs.machine.Nestings.{run_takes}
 use Rattle.page_scopes_tree.proofs.runs.run_len.Given as goal
 
 abbrev pub invariant-loop-outer : goal.invariant-loop-outer

@@ -1,7 +1,7 @@
 use Rattle.std.proofs.Common.{◌≡◌, ◌-◌, arith, ◌∙◌, sym, reverse, refl, append_assoc}
 use Rattle.page_scopes_tree.specs.laws.Views.{act_view, does}
-use Rattle.page_scopes_tree.specs.machine.Frames.{framed}
-use Rattle.page_scopes_tree.proofs.StackLemmas.{items_more, state_more, drop_more}
+use Rattle.page_scopes_tree.specs.machine.Stacks.{framed}
+use Rattle.page_scopes_tree.proofs.EdgeLemmas.{items_more, state_more, drop_more}
 use Rattle.page_scopes_tree.proofs.stacks.end_scopes.Goals as goal
 
 pub loop-i-init : goal.loop-i-init

@@ -1,8 +1,8 @@
 use Rattle.std.proofs.Common.{◌≡◌, ◌+◌, ◌-◌, drop, reverse, vec_capacity, vec_len}
 use Rattle.page_core_base.specs.laws.Views.{CameUpTo}
-use Rattle.page_scopes_tree.specs.machine.Machines.{ended_items, ended_state}
+use Rattle.page_scopes_tree.specs.machine.Nestings.{ended_items, ended_state}
 use Rattle.page_scopes_tree.specs.laws.Views.{act_view, does}
-use Rattle.page_scopes_tree.specs.machine.Frames.{framed}
+use Rattle.page_scopes_tree.specs.machine.Stacks.{framed}
 use Rattle.page_scopes_tree.proofs.stacks.end_scopes.Given as goal
 
 abbrev pub invariant-loop-i : goal.invariant-loop-i

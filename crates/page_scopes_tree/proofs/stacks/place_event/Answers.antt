@@ -1,7 +1,7 @@
 use Rattle.std.proofs.Common.{◌≡◌, arith, reverse}
 use Rattle.page_scopes_tree.specs.laws.Views.{labels}
 use Rattle.page_scopes_tree.proofs.FitLemmas.{act-room}
-use Rattle.page_scopes_tree.proofs.MarginLemmas.{length-inner_labels}
+use Rattle.page_scopes_tree.proofs.RunLemmas.{length-inner_labels}
 use Rattle.page_scopes_tree.specs.Placements.{act_placement}
 use Rattle.page_scopes_tree.specs.declared.acts.Act.TheVariants.{Event}
 use Rattle.page_scopes_tree.specs.declared.placements.Placement.TheVariants.{Node}

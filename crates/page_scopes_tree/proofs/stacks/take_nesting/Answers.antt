@@ -1,7 +1,7 @@
 use Rattle.std.proofs.Common.{◌≡◌, arith, false, reverse}
 use Rattle.page_scopes_tree.specs.laws.Views.{labels, act_view}
 use Rattle.page_scopes_tree.proofs.FitLemmas.{act-fits}
-use Rattle.page_scopes_tree.proofs.MarginLemmas.{length-inner_labels}
+use Rattle.page_scopes_tree.proofs.RunLemmas.{length-inner_labels}
 use Rattle.page_scopes_tree.proofs.StepLemmas.{step-taken}
 use Rattle.page_scopes_tree.specs.Placements.{is_passed_over}
 use Rattle.page_scopes_tree.proofs.stacks.take_nesting.Goals as goal

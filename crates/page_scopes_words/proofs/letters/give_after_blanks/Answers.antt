@@ -1,4 +1,4 @@
-use Rattle.page_scopes_words.proofs.LetterCellLemmas.{font_joined}
+use Rattle.page_scopes_words.proofs.RunEndLemmas.{font_joined}
 use Rattle.page_scopes_words.proofs.letters.give_after_blanks.Goals as goal
 
 pub returns : goal.returns

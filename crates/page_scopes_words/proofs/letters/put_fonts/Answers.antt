@@ -1,5 +1,5 @@
 use Rattle.std.proofs.Common.{arith}
-use Rattle.page_scopes_words.proofs.LetterCellLemmas.{fonts_put, put_len}
+use Rattle.page_scopes_words.proofs.RunEndLemmas.{fonts_put, put_len}
 use Rattle.page_scopes_words.proofs.letters.put_fonts.Goals as goal
 
 pub returns-then-start-fonts-clause-front : goal.returns-then-start-fonts-clause-front

@@ -1,5 +1,5 @@
 use Rattle.std.proofs.Common.{◌-◌, ◌+◌, ◌≤◌}
-use Rattle.page_scopes_words.specs.machine.RunEnds.{GoesOn}
+use Rattle.page_scopes_words.specs.machine.Letters.{GoesOn}
 use Rattle.page_scopes_words.proofs.run_ends.vectors_len.Given as goal
 
 -- before this place no run ends

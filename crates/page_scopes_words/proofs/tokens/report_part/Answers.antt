@@ -2,7 +2,7 @@ use Rattle.std.proofs.Common.{[], ◌∷◌, sym, ap, subst, ◌∙◌, arith}
 use Rattle.page_core_base.specs.Messages.{message_about}
 use Rattle.page_core_base.specs.Rows.{noted}
 use Rattle.page_core_base.specs.Texts.{unpaired}
-use Rattle.page_core_base.proofs.TextLemmas.{front_again}
+use Rattle.page_core_base.proofs.LatchLemmas.{front_again}
 use Rattle.page_scopes_words.proofs.tokens.report_part.Goals as goal
 
 pub returns-then-quoted : goal.returns-then-quoted

@@ -1,5 +1,5 @@
 use Rattle.std.proofs.Common.{◌≤◌, length, arith}
-use Rattle.page_scopes_words.proofs.WhiteLemmas.{cells_more, cells_none}
+use Rattle.page_scopes_words.proofs.RunEndLemmas.{cells_more, cells_none}
 use Rattle.page_scopes_words.proofs.white_cells.give_white_cells.Goals as goal
 
 pub loop-byte-preserved : goal.loop-byte-preserved

@@ -1,5 +1,5 @@
 use Rattle.std.proofs.Common.{sym}
-use Rattle.page_sets_lines.proofs.QuoteLemmas.{rest_open}
+use Rattle.page_sets_lines.proofs.ArgumentLaws.{rest_open}
 use Rattle.page_sets_lines.proofs.control_lines.open_quote.Goals as goal
 
 pub returns-else-has_quote : goal.returns-else-has_quote

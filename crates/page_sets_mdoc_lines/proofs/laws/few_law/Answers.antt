@@ -1,4 +1,4 @@
-use Rattle.page_sets_mdoc_lines.proofs.FewLemmas.{few_arguments_after}
+use Rattle.page_sets_mdoc_lines.proofs.WordSpanLemmas.{few_arguments_after}
 use Rattle.page_sets_mdoc_lines.proofs.laws.few_law.Goals as goal
 
 pub returns : goal.returns

@@ -1,4 +1,4 @@
-use Rattle.page_sets_mdoc_lines.proofs.PartLemmas.{words_taken, rest_goes_on, whole}
+use Rattle.page_sets_mdoc_lines.proofs.WordSpanLemmas.{words_taken, rest_goes_on, whole}
 use Rattle.page_sets_mdoc_lines.proofs.laws.parts_law.Goals as goal
 
 pub returns : goal.returns

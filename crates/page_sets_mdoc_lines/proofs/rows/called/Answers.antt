@@ -1,5 +1,5 @@
 use Rattle.std.proofs.Common.{◌∙◌, refl, sym}
-use Rattle.page_sets_mdoc_lines.proofs.NameLengthLemmas.{no_row}
+use Rattle.page_sets_mdoc_lines.proofs.WordSpanLemmas.{no_row}
 use Rattle.page_sets_mdoc_lines.proofs.rows.called.Goals as goal
 
 pub returns-then-not-has_name_len : goal.returns-then-not-has_name_len

@@ -3,8 +3,7 @@ use Rattle.page_roff_syntax.specs.laws.Views.{argument_view}
 use Rattle.page_sets_mdoc_lines.specs.declared.word_spans.WordSpan.{WordSpan}
 use Rattle.page_sets_mdoc_lines.specs.laws.Views.{arguments_after, is_call, is_something, FirstIs}
 use Rattle.page_sets_mdoc_lines.specs.Parts.{is_closing, is_real}
-use Rattle.page_sets_mdoc_lines.proofs.WordSpanLemmas.{call_passed, cut_words, one_more, word_passed, pass_is}
-use Rattle.page_sets_mdoc_lines.proofs.CursorLemmas.{few_left}
+use Rattle.page_sets_mdoc_lines.proofs.WordSpanLemmas.{call_passed, cut_words, one_more, word_passed, pass_is, few_left}
 use Rattle.page_sets_mdoc_lines.proofs.WordLemmas.{call_is, drop_next, first_of_less, first_or, tail_is}
 use Rattle.page_sets_mdoc_lines.proofs.word_spans.find_span.Goals.{then-not-is_closing, else-not-is_closing, then-is_real, else-is_real}
 use Rattle.page_sets_mdoc_lines.proofs.word_spans.find_span.Goals as goal

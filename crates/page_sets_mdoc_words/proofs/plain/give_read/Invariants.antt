@@ -5,7 +5,7 @@ use Rattle.page_sets_lines.specs.laws.Views.{ArgumentFits}
 use Rattle.page_sets_mdoc_lines.specs.machine.Cursors.{IsCursorOf}
 use Rattle.page_sets_mdoc_lines.specs.laws.Views.{words_view}
 use Rattle.page_sets_mdoc_words.specs.Inlines.{printed}
-use Rattle.page_sets_mdoc_words.proofs.ReadLemmas.{read_onto}
+use Rattle.page_sets_mdoc_words.proofs.MacroPrintLemmas.{read_onto}
 use Rattle.page_sets_mdoc_words.proofs.plain.give_read.Given as goal
 
 abbrev pub invariant-loop-next : goal.invariant-loop-next

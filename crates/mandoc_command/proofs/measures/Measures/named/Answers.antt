@@ -1,7 +1,7 @@
 use Rattle.std.proofs.Common.{rules, lit<, sym, ◌∙◌, ◌≡◌, length, Some, None, refl}
 use Rattle.std.specs.List.{position_or_len, before_first}
 use Rattle.mandoc_command.specs.Measures.{is_comma, measures_of, with_part}
-use Rattle.mandoc_command.proofs.PartLemmas.{with_parts-next, with_parts-refused, with_parts-last}
+use Rattle.mandoc_command.proofs.LineLemmas.{with_parts-next, with_parts-refused, with_parts-last}
 use Rattle.mandoc_command.proofs.measures.Measures.named.Goals as goal
 
 pub loop-part-init : goal.loop-part-init

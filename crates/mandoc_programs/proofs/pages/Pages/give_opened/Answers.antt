@@ -4,7 +4,7 @@ use Rattle.mandoc_programs.specs.Bearings.{bearing_of_file}
 use Rattle.mandoc_formats.specs.Formats.{HasFailed, shown, unopened_line}
 use Rattle.mandoc_programs.specs.Indexes.{after, with}
 use Rattle.mandoc_programs.proofs.Parts.{quiet, said}
-use Rattle.mandoc_formats.proofs.Waits.{tells}
+use Rattle.mandoc_formats.proofs.Turns.{tells}
 use Rattle.mandoc_programs.proofs.pages.Pages.give_opened.Goals as goal
 
 pub returns-in-Ok-None : goal.returns-in-Ok-None

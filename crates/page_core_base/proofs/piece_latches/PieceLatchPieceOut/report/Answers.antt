@@ -1,6 +1,5 @@
 use Rattle.page_core_base.specs.laws.Views.{message_of}
-use Rattle.page_core_base.proofs.LatchLemmas.{left_given}
-use Rattle.page_core_base.proofs.PieceLatchLemmas.{heard}
+use Rattle.page_core_base.proofs.LatchLemmas.{left_given, heard}
 use Rattle.page_core_base.proofs.piece_latches.PieceLatchPieceOut.report.Goals as goal
 
 pub returns-then-is_none : goal.returns-then-is_none

@@ -1,4 +1,4 @@
-use Rattle.page_core_base.proofs.SinkLemmas.{one_less}
+use Rattle.page_core_base.proofs.LatchLemmas.{one_less}
 use Rattle.page_core_base.proofs.piece_latches.PieceOut.give_blanks.Goals as goal
 
 pub loop-i-preserved : goal.loop-i-preserved

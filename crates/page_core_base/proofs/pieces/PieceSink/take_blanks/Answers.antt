@@ -1,6 +1,6 @@
 use Rattle.std.proofs.Common.{◌≡◌, ◌+◌, ◌-◌, ℕ, [], ◌∷◌, replicate, ◌∙◌, refl, arith, rules}
 use Rattle.std.proofs.lemmas.Result.{err_from_is_err_and}
-use Rattle.page_core_base.proofs.SinkLemmas.{UpTo-start, UpTo-more, UpTo-within, one_less}
+use Rattle.page_core_base.proofs.LatchLemmas.{UpTo-start, UpTo-more, UpTo-within, one_less}
 use Rattle.page_core_base.specs.Rows.{shown}
 use Rattle.page_core_base.specs.declared.faults.Fault.TheVariants.{Failed}
 use Rattle.page_core_base.specs.declared.pieces.Piece.TheVariants.{Text}

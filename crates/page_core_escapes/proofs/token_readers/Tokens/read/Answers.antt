@@ -2,7 +2,7 @@ use Rattle.std.proofs.Common.{◌<◌, ◌≤◌, length, ap, sym, ◌∙◌, ar
 use Rattle.std.proofs.lemmas.Bool.Decides.{nat_tests}
 use Rattle.std.proofs.lemmas.List.{take_rest}
 use Rattle.page_core_escapes.specs.Tokens.{token_bytes}
-use Rattle.page_core_escapes.proofs.TokenLemmas.{tokens_more, tokens_none}
+use Rattle.page_core_escapes.proofs.Unwinding.{tokens_more, tokens_none}
 use Rattle.page_core_escapes.proofs.token_readers.Tokens.read.Goals as goal
 
 pub returns-then-is_empty-clause-next : goal.returns-then-is_empty-clause-next

@@ -1,5 +1,5 @@
 use Rattle.std.proofs.Common.{refl}
-use Rattle.page_core_numbers.proofs.TroubleLemmas.{limit-front}
+use Rattle.page_core_numbers.proofs.ExpressionLemmas.{limit-front}
 use Rattle.page_core_numbers.proofs.troubles.Trouble.note.Goals as goal
 
 pub returns-in-Parentheses : goal.returns-in-Parentheses

@@ -1,6 +1,6 @@
 use Rattle.std.proofs.Common.{◌≡◌}
 use Rattle.std.specs.Prelude.{if◌then◌else◌}
-use Rattle.page_core_numbers.proofs.TroubleLemmas.{going_on, stopping}
+use Rattle.page_core_numbers.proofs.ExpressionLemmas.{going_on, stopping}
 use Rattle.page_core_numbers.proofs.troubles.Troubles.followed_by.Goals as goal
 use Rattle.page_core_numbers.proofs.troubles.Troubles.followed_by.Goals.{then-divides_by_zero, else-divides_by_zero}
 

@@ -1,6 +1,6 @@
 use Rattle.std.proofs.Common.{◌≡◌, ◌++◌, ◌+◌, ◌^◌, ◌-◌, length, take, drop, ◌∙◌, arith, inl, inr, length-append}
 use Rattle.std.proofs.lemmas.List.{length-take, take_all, take_at, take-append-le}
-use Rattle.page_core_streams.proofs.GivenLemmas.{given_more, given_end, busy_more, busy_end, busy_lean}
+use Rattle.page_core_streams.proofs.AsciiLemmas.{given_more, given_end, busy_more, busy_end, busy_lean}
 use Rattle.page_core_streams.proofs.chunks.Chunks.read.Goals as goal
 
 pub returns-then-self-eq0-clause-reads : goal.returns-then-self-eq0-clause-reads

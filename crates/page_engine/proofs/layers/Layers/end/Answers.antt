@@ -1,9 +1,9 @@
 use Rattle.std.proofs.Common.{rules, ℕ, Option, refl, ap, ◌∙◌}
 use Rattle.std.specs.Prelude.{unwrap_or}
 use Rattle.page_core_base.specs.laws.Views.{Gets, FailsBySink}
-use Rattle.page_engine.specs.machine.ByLine.{ended, end_laid}
+use Rattle.page_engine.specs.machine.PageSinks.{ended, end_laid}
 use Rattle.page_engine.specs.Page.{is_silent}
-use Rattle.page_engine.proofs.Feeds.{ends_gets, ends_worst, ends_faults}
+use Rattle.page_engine.proofs.Items.{ends_gets, ends_worst, ends_faults}
 use Rattle.page_engine.proofs.layers.Layers.end.Goals as goal
 
 pub returns-clause-gets : goal.returns-clause-gets

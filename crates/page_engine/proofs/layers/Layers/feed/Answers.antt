@@ -1,11 +1,11 @@
 use Rattle.std.proofs.Common.{rules, refl, ap, sym, ◌∙◌}
 use Rattle.page_core_base.specs.laws.Views.{Gets, FailsBySink}
 use Rattle.page_engine_lines.specs.machine.Lines.{source_items}
-use Rattle.page_fill.specs.machine.ByPiece.{laid_items}
-use Rattle.page_engine.specs.machine.ByLine.{settled_text, passed}
+use Rattle.page_fill.specs.machine.Words.{laid_items}
+use Rattle.page_engine.specs.machine.PageSinks.{settled_text, passed}
 use Rattle.page_engine.specs.Page.{is_silent}
-use Rattle.page_engine.proofs.Fixed.{items_fixed, output_kept}
-use Rattle.page_engine.proofs.Feeds.{passes_gets, passes_edge, passes_faults}
+use Rattle.page_engine.proofs.WholeLines.{items_fixed, output_kept}
+use Rattle.page_engine.proofs.Items.{passes_gets, passes_edge, passes_faults}
 use Rattle.page_engine.proofs.layers.Layers.feed.Goals as goal
 
 pub returns-clause-gets : goal.returns-clause-gets

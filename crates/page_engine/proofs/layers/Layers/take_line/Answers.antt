@@ -3,8 +3,8 @@ use Rattle.std.proofs.lemmas.Result.{err_from_is_err_and}
 use Rattle.page_core_base.specs.laws.Views.{Gets, FailsBySink}
 use Rattle.page_core_base.specs.Rows.{Gave}
 use Rattle.page_roff_lines.specs.laws.Cutting.{line_of}
-use Rattle.page_engine.specs.machine.ByLine.{laid_notes, settled_text, settled_line}
-use Rattle.page_engine.proofs.Cuts.{cut_at, cut_gave, cut_within, gets_after, faults_after}
+use Rattle.page_engine.specs.machine.PageSinks.{laid_notes, settled_text, settled_line}
+use Rattle.page_engine.proofs.Items.{cut_at, cut_gave, cut_within, gets_after, faults_after}
 use Rattle.page_engine.proofs.layers.Layers.take_line.Goals as goal
 
 pub returns-in_err-text-clause-gets : goal.returns-in_err-text-clause-gets

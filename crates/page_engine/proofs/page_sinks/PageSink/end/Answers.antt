@@ -1,13 +1,12 @@
-use Rattle.page_engine.proofs.Feeds.{same_header}
+use Rattle.page_engine.proofs.Items.{same_header, ends_after, ends_join, broken_join, broken_after}
 use Rattle.page_engine_lines.specs.Edges.{footer_items}
 use Rattle.page_engine_lines.specs.machine.Lines.{end_items}
-use Rattle.page_fill.specs.machine.ByPiece.{laid_items}
+use Rattle.page_fill.specs.machine.Words.{laid_items}
 use Rattle.page_fill.specs.Filling.{row_end}
 use Rattle.page_fill.specs.laws.Views as fill
 use Rattle.page_engine.specs.laws.Views.{filter-sink, shown-sink}
-use Rattle.page_engine.specs.machine.ByLine.{footer_laid}
+use Rattle.page_engine.specs.machine.PageSinks.{footer_laid}
 use Rattle.page_engine.specs.Edges.{last_line}
-use Rattle.page_engine.proofs.Items.{ends_after, ends_join, broken_join, broken_after}
 use Rattle.page_engine.proofs.page_sinks.PageSink.end.Goals as goal
 
 pub returns-in-Err-clause-ends : goal.returns-in-Err-clause-ends

@@ -1,4 +1,4 @@
-use Rattle.page_fill.proofs.FillerLaw.{items-law}
+use Rattle.page_fill.proofs.LetteredPieces.{items-law}
 use Rattle.page_engine.proofs.Items.{items_pass}
 use Rattle.page_engine.proofs.page_sinks.PageSinkPieceSink.take_blanks.Goals as goal
 

@@ -1,6 +1,6 @@
 use Rattle.std.proofs.Common.{rules, ◌≡◌}
 use Rattle.page_engine.specs.declared.pages.Phase.TheVariants.{Open}
-use Rattle.page_engine.proofs.Phases.{open_kept, within_held}
+use Rattle.page_engine.proofs.WholeLines.{open_kept, within_held}
 use Rattle.page_engine.proofs.pages.Page.edge.Goals as goal
 
 pub returns-clause-within : goal.returns-clause-within

@@ -1,8 +1,7 @@
 use Rattle.std.proofs.Common.{refl, ap, ◌∙◌}
-use Rattle.page_engine.specs.machine.ByLine.{ended}
+use Rattle.page_engine.specs.machine.PageSinks.{ended}
 use Rattle.page_engine.specs.laws.States.{PageState}
-use Rattle.page_engine.proofs.Phases.{open_layers, failed_at, no_cause}
-use Rattle.page_engine.proofs.WholeLines.{page_none}
+use Rattle.page_engine.proofs.WholeLines.{open_layers, failed_at, no_cause, page_none}
 use Rattle.page_engine.proofs.pages.Page.end.Goals as goal
 
 pub returns-in-Err-clause-ends : goal.returns-in-Err-clause-ends

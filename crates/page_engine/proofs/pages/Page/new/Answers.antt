@@ -1,6 +1,5 @@
 use Rattle.page_engine.specs.Edges.{start}
-use Rattle.page_engine.proofs.Phases.{within_is}
-use Rattle.page_engine.proofs.WholeLines.{start_reached}
+use Rattle.page_engine.proofs.WholeLines.{within_is, start_reached}
 use Rattle.page_engine.proofs.pages.Page.new.Goals as goal
 
 pub returns-clause-within : goal.returns-clause-within

@@ -1,4 +1,4 @@
-use Rattle.page_engine.proofs.Phases.{open_at}
+use Rattle.page_engine.proofs.WholeLines.{open_at}
 use Rattle.page_engine.proofs.pages.Page.phase.Goals as goal
 
 pub returns-clause-open : goal.returns-clause-open

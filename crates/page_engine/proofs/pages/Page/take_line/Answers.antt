@@ -1,10 +1,9 @@
 use Rattle.std.proofs.Common.{refl, ap, ◌∙◌}
 use Rattle.page_roff_lines.specs.laws.Cutting.{line_of}
 use Rattle.page_roff_source.specs.Runs.{counts_of}
-use Rattle.page_engine.specs.machine.ByLine.{settled_line}
+use Rattle.page_engine.specs.machine.PageSinks.{settled_line}
 use Rattle.page_engine_lines.specs.Edges.{LinesEdge}
-use Rattle.page_engine.proofs.Phases.{edge_at, open_layers, open_kept, within_is, failed_at, no_cause}
-use Rattle.page_engine.proofs.WholeLines.{line_reached, one_line}
+use Rattle.page_engine.proofs.WholeLines.{edge_at, open_layers, open_kept, within_is, failed_at, no_cause, line_reached, one_line}
 use Rattle.page_engine.proofs.pages.Page.take_line.Goals as goal
 
 pub returns-in-Err-clause-takes : goal.returns-in-Err-clause-takes

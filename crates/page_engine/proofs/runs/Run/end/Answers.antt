@@ -1,7 +1,7 @@
 use Rattle.std.proofs.Common.{[]}
 use Rattle.std.proofs.lemmas.Result.{err_from_is_err_and}
 use Rattle.page_roff_lines.specs.laws.Cutting.{last_line}
-use Rattle.page_core_base.proofs.SinkLemmas.{within-join}
+use Rattle.page_core_base.proofs.LatchLemmas.{within-join}
 use Rattle.page_engine.specs.Page.{settled, page}
 use Rattle.page_engine.specs.laws.Views.{sinks}
 use Rattle.page_engine.proofs.WholeLines.{page_end}

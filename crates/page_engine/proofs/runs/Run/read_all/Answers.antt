@@ -1,6 +1,6 @@
 use Rattle.std.proofs.Common.{◌-◌, ◌^◌, ◌++◌, [], inl, inr, refl, ◌∙◌, length, length-append, arith}
 use Rattle.std.proofs.lemmas.Result.{err_from_is_err_and}
-use Rattle.page_core_streams.proofs.GivenLemmas.{busy_lean}
+use Rattle.page_core_streams.proofs.AsciiLemmas.{busy_lean}
 use Rattle.page_engine.specs.laws.Views.{sinks}
 use Rattle.page_engine.proofs.Through.{through_none, through_more, room_after, fresh_room, broken_chunk}
 use Rattle.page_engine.proofs.WholeRuns.{ended_with, may_read, starts_fresh, stopped_by, stopped_reading}

@@ -2,7 +2,7 @@ use Rattle.std.proofs.Common.{◌≤◌, refl, [], ◌++◌, ◌∙◌, ap, take
 use Rattle.std.proofs.lemmas.Bool.Decides.{nat_tests}
 use Rattle.std.proofs.lemmas.List.{take_rest}
 use Rattle.std.proofs.lemmas.Result.{err_from_is_err_and}
-use Rattle.page_engine.specs.machine.Points.{settled_from}
+use Rattle.page_engine.specs.machine.Steps.{settled_from}
 use Rattle.page_engine.specs.laws.Views.{sinks}
 use Rattle.page_engine.proofs.Through.{through_none, through_more, room_after, all_done, part_of, chunk_out}
 use Rattle.page_engine.proofs.runs.Run.take_chunk.Goals as goal

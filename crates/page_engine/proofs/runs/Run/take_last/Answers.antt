@@ -1,8 +1,8 @@
 use Rattle.std.proofs.Common.{refl, ap, ◌∙◌, sym, arith}
 use Rattle.std.proofs.lemmas.Result.{err_from_is_err_and}
 use Rattle.page_roff_lines.specs.laws.Cutting.{line_of, line_at, last_line}
-use Rattle.page_engine.proofs.LineCounts.{may_take}
-use Rattle.page_engine.proofs.Cutting.{none_gave, none_edge, none_count, one_gave, one_edge, one_count}
+use Rattle.page_engine.proofs.Through.{may_take}
+use Rattle.page_engine.proofs.WholeLines.{none_gave, none_edge, none_count, one_gave, one_edge, one_count}
 use Rattle.page_engine.proofs.runs.Run.take_last.Goals as goal
 
 pub returns-then-not-end-clause-takes : goal.returns-then-not-end-clause-takes

@@ -1,8 +1,8 @@
 use Rattle.std.proofs.Common.{refl, ◌∙◌, take, arith}
 use Rattle.std.proofs.lemmas.Result.{err_from_is_err_and}
 use Rattle.page_roff_lines.specs.laws.Cutting.{line_of, lines_within}
-use Rattle.page_engine.proofs.LineCounts.{may_take}
-use Rattle.page_engine.proofs.Cutting.{none_gave, none_edge, none_count, one_gave, one_edge, one_count, most_one, some_taken}
+use Rattle.page_engine.proofs.Through.{may_take}
+use Rattle.page_engine.proofs.WholeLines.{none_gave, none_edge, none_count, one_gave, one_edge, one_count, most_one, some_taken}
 use Rattle.page_engine.proofs.runs.Run.take_part.Goals as goal
 
 pub returns-then-not-is_whole-clause-takes : goal.returns-then-not-is_whole-clause-takes

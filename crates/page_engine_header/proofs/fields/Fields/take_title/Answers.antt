@@ -1,6 +1,6 @@
 use Rattle.std.proofs.Common.{◌∙◌, ap}
 use Rattle.page_engine_header.specs.Header.{volume_of}
-use Rattle.page_engine_header.proofs.FieldLemmas.{th_read}
+use Rattle.page_engine_header.proofs.PrintingLemmas.{th_read}
 use Rattle.page_engine_header.proofs.fields.Fields.take_title.Goals as goal
 
 pub returns : goal.returns

@@ -1,7 +1,7 @@
 use Rattle.std.proofs.Common.{◌≡◌, arith}
 use Rattle.page_core_base.specs.laws.Views.{message_of}
 use Rattle.page_core_base.specs.Rows.{noted}
-use Rattle.page_engine_header.proofs.RowLemmas.{row_more, row_full}
+use Rattle.page_engine_header.proofs.PrintingLemmas.{row_more, row_full}
 use Rattle.page_engine_header.proofs.full_rows.FullRowsPieceOut.report.Goals as goal
 
 pub returns-then-self-gt0 : goal.returns-then-self-gt0

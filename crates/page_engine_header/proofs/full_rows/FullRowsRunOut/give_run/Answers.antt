@@ -1,4 +1,4 @@
-use Rattle.page_engine_header.proofs.RowLemmas.{row_run, run_came, run_stays}
+use Rattle.page_engine_header.proofs.PrintingLemmas.{row_run, run_came, run_stays}
 use Rattle.page_engine_header.proofs.full_rows.FullRowsRunOut.give_run.Goals as goal
 use Rattle.page_engine_header.proofs.full_rows.FullRowsRunOut.give_run.Goals.{else-text-self-via-then-text-self+else-give_kept, else-text-self-via-else-text-self}
 

@@ -1,5 +1,5 @@
 use Rattle.std.proofs.Common.{refl, sym, ◌∙◌}
-use Rattle.page_engine_index.proofs.FieldLemmas.{begins, no_version, next_entry, no_entry}
+use Rattle.page_engine_index.proofs.MatchLemmas.{begins, no_version, next_entry, no_entry}
 use Rattle.page_engine_index.proofs.entries.Place.next.Goals as goal
 
 pub returns-in-Some-version_of-clause-next : goal.returns-in-Some-version_of-clause-next

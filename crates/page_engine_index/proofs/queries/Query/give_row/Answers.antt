@@ -2,7 +2,7 @@ use Rattle.std.proofs.Common.{refl, sym, ◌∙◌}
 use Rattle.page_engine_index.specs.Searches.{rows_to}
 use Rattle.page_engine_index.specs.machine.Steps.{entry_by}
 use Rattle.page_engine_index.specs.Whatis.{asked_of}
-use Rattle.page_engine_index.proofs.RowLemmas.{no_row, gives_none, gives_row}
+use Rattle.page_engine_index.proofs.MatchLemmas.{no_row, gives_none, gives_row}
 use Rattle.page_engine_index.proofs.queries.Query.give_row.Goals as goal
 
 pub returns-then-not-shows-clause-gives : goal.returns-then-not-shows-clause-gives

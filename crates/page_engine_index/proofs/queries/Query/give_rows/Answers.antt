@@ -2,7 +2,7 @@ use Rattle.std.proofs.Common.{refl}
 use Rattle.page_engine_index.specs.Searches.{rows_to}
 use Rattle.page_engine_index.specs.machine.Steps.{entry_by}
 use Rattle.page_engine_index.specs.Whatis.{asked_of}
-use Rattle.page_engine_index.proofs.RowLemmas.{gives_none, gives_one}
+use Rattle.page_engine_index.proofs.MatchLemmas.{gives_none, gives_one}
 use Rattle.page_engine_index.proofs.queries.Query.give_rows.Goals as goal
 
 pub returns-in-Some-clause-gives : goal.returns-in-Some-clause-gives

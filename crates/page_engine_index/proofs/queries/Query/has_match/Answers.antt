@@ -1,5 +1,5 @@
 use Rattle.std.proofs.Common.{sym, ◌∙◌, arith}
-use Rattle.page_engine_index.proofs.RowLemmas.{any_found, any_on, any_end}
+use Rattle.page_engine_index.proofs.MatchLemmas.{any_found, any_on, any_end}
 use Rattle.page_engine_index.proofs.queries.Query.has_match.Goals as goal
 
 pub returns-then-has_match : goal.returns-then-has_match

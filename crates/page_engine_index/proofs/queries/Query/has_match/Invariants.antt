@@ -1,7 +1,7 @@
 use Rattle.std.proofs.Common.{◌≡◌, map}
 use Rattle.std.specs.List.{list_any}
 use Rattle.page_engine_index.specs.Matches.{has_match}
-use Rattle.page_engine_index.proofs.RowLemmas.{any_from}
+use Rattle.page_engine_index.proofs.MatchLemmas.{any_from}
 use Rattle.page_engine_index.proofs.queries.Query.has_match.Given as goal
 
 abbrev pub invariant-loop-word : goal.invariant-loop-word

@@ -1,6 +1,6 @@
 use Rattle.std.proofs.Common.{◌++◌, [], refl, ◌∙◌, length-append, arith}
 use Rattle.std.proofs.lemmas.Result.{err_from_is_err_and}
-use Rattle.page_core_streams.proofs.GivenLemmas.{busy_lean}
+use Rattle.page_core_streams.proofs.AsciiLemmas.{busy_lean}
 use Rattle.page_engine_index.specs.Searches.{rows_to}
 use Rattle.page_engine_index.specs.Whatis.{asked_of}
 use Rattle.page_engine_index.proofs.SearchLemmas.{here_start, over_end, over_fault, over_stopped}

@@ -1,7 +1,7 @@
 use Rattle.std.proofs.Common.{rules, refl, sym, ◌∙◌, [], ap, append-nil, None, Some}
 use Rattle.page_core_base.specs.laws.Views.{line_view}
 use Rattle.page_engine_lines.specs.laws.Views.{events_after}
-use Rattle.page_engine_lines.proofs.EventLemmas.{after_none, items_none}
+use Rattle.page_engine_lines.proofs.BodySharedLemmas.{after_none, items_none}
 use Rattle.page_engine_lines.proofs.bodies.Body.give_line.Goals as goal
 
 pub returns : goal.returns

@@ -1,5 +1,5 @@
 use Rattle.std.proofs.Common.{◌∙◌, append_assoc, sym}
-use Rattle.page_engine_lines.proofs.EventLemmas.{two_after, two_items}
+use Rattle.page_engine_lines.proofs.BodySharedLemmas.{two_after, two_items}
 use Rattle.page_engine_lines.specs.laws.Views.{plain_event}
 use Rattle.page_sets_lines.specs.Lines.{fills, line_end}
 use Rattle.page_engine_lines.proofs.bodies.Body.give_plain.Goals as goal

@@ -1,5 +1,5 @@
 use Rattle.page_sets_lines.specs.laws.Events.{event_view}
-use Rattle.page_engine_lines.proofs.BodyOutLemmas.{left_more}
+use Rattle.page_engine_lines.proofs.BodySharedLemmas.{left_more}
 use Rattle.page_engine_lines.proofs.bodies.BodyOutEventOut.give.Goals as goal
 
 pub returns : goal.returns

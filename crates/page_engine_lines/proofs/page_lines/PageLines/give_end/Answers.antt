@@ -1,7 +1,7 @@
 use Rattle.page_roff_source.specs.Runs.{end_notes}
 use Rattle.page_engine_lines.specs.laws.Views as bodies
 use Rattle.page_engine_lines.specs.machine.Lines.{end_items}
-use Rattle.page_engine_lines.proofs.Parts.{items_after_notes}
+use Rattle.page_engine_lines.proofs.BodySharedLemmas.{items_after_notes}
 use Rattle.page_engine_lines.proofs.page_lines.PageLines.give_end.Goals as goal
 
 pub returns-clause-came : goal.returns-clause-came

@@ -6,7 +6,7 @@ use Rattle.page_engine_lines.specs.Bodies.{BodyEdge}
 use Rattle.page_engine_lines.specs.Edges.{LinesEdge}
 use Rattle.page_engine_lines.specs.machine.Given.{body_after}
 use Rattle.page_engine_lines.specs.machine.Lines.{source_items, source_line, trailing_notes}
-use Rattle.page_engine_lines.proofs.Parts.{lent_after, lent_items}
+use Rattle.page_engine_lines.proofs.BodySharedLemmas.{lent_after, lent_items}
 use Rattle.page_engine_lines.proofs.page_lines.PageLines.give_line.Goals as goal
 
 pub returns-in-Some-clause-came : goal.returns-in-Some-clause-came

@@ -1,6 +1,6 @@
 use Rattle.page_roff_lines.specs.laws.Cutting.{line_of}
-use Rattle.page_engine_records.specs.machine.Steps.{front_of}
-use Rattle.page_engine_records.proofs.FrontLemmas.{line_taken}
+use Rattle.page_engine_records.specs.machine.NameTexts.{front_of}
+use Rattle.page_engine_records.proofs.NameLemmas.{line_taken}
 use Rattle.page_engine_records.proofs.fronts.PageFront.read_line.Goals as goal
 
 pub returns-in-Ok-clause-front : goal.returns-in-Ok-clause-front

@@ -1,7 +1,7 @@
 use Rattle.std.proofs.Common.{◌≡◌, length, arith}
 use Rattle.std.proofs.lemmas.Bool.Decides.{nat_tests}
 use Rattle.page_engine_records.specs.NameTexts.{TEXT}
-use Rattle.page_engine_records.proofs.ReaderLemmas.{full-same}
+use Rattle.page_engine_records.proofs.NameTextLemmas.{full-same}
 use Rattle.page_engine_records.proofs.name_readers.NameReader.is_full.Goals as goal
 
 pub returns : goal.returns

@@ -1,6 +1,6 @@
 use Rattle.std.proofs.Common.{sym}
-use Rattle.page_core_base.proofs.CharacterLemmas.{characters_of-text, characters_of-none}
-use Rattle.page_engine_records.proofs.ReaderLemmas.{characters_none}
+use Rattle.page_core_base.proofs.LatchLemmas.{characters_of-text, characters_of-none}
+use Rattle.page_engine_records.proofs.NameTextLemmas.{characters_none}
 use Rattle.page_engine_records.proofs.name_readers.NameReader.take_bytes.Goals as goal
 
 pub returns-in-Ok : goal.returns-in-Ok

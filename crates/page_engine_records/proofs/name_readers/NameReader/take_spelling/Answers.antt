@@ -1,6 +1,6 @@
 use Rattle.std.proofs.Common.{sym, ap, ◌∙◌}
 use Rattle.page_engine_records.specs.machine.NameTexts.{with_characters}
-use Rattle.page_engine_records.proofs.ReaderLemmas.{characters_at, characters_end}
+use Rattle.page_engine_records.proofs.NameTextLemmas.{characters_at, characters_end}
 use Rattle.page_engine_records.proofs.name_readers.NameReader.take_spelling.Goals as goal
 
 pub loop-byte-preserved : goal.loop-byte-preserved

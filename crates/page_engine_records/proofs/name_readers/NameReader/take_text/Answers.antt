@@ -3,7 +3,7 @@ use Rattle.std.proofs.lemmas.Str.{IsUtf8-past_char}
 use Rattle.page_core_base.specs.declared.page_settings.Output.TheVariants.{Ascii}
 use Rattle.page_engine_header.proofs.PrintingLemmas.{plain-more, plain-done}
 use Rattle.page_engine_records.specs.machine.NameTexts.{with_characters}
-use Rattle.page_engine_records.proofs.ReaderLemmas.{characters-append, characters_none}
+use Rattle.page_engine_records.proofs.NameTextLemmas.{characters-append, characters_none}
 use Rattle.page_engine_records.proofs.name_readers.NameReader.take_text.Goals as goal
 
 pub loop-c-preserved : goal.loop-c-preserved

@@ -1,6 +1,6 @@
 use Rattle.std.proofs.Common.{ap, ◌∙◌}
-use Rattle.page_engine_records.specs.machine.Fronts.{Front}
-use Rattle.page_engine_records.proofs.FrontLemmas.{end_named}
+use Rattle.page_engine_records.specs.machine.NameTexts.{Front}
+use Rattle.page_engine_records.proofs.NameLemmas.{end_named}
 use Rattle.page_engine_records.proofs.runs.RecordRun.finish.Goals as goal
 
 pub returns : goal.returns

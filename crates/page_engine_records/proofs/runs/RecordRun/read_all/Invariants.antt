@@ -1,6 +1,6 @@
 use Rattle.std.proofs.Common.{◌≡◌, ℕ, List}
 use Rattle.page_core_streams.specs.laws.Views.{AreRead}
-use Rattle.page_engine_records.specs.machine.Steps.{Through}
+use Rattle.page_engine_records.specs.machine.NameTexts.{Through}
 use Rattle.page_engine_records.proofs.runs.RecordRun.read_all.Given as goal
 
 abbrev pub invariant-loop-self : goal.invariant-loop-self

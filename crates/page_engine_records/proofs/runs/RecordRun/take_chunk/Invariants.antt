@@ -1,5 +1,5 @@
 use Rattle.std.proofs.Common.{◌≡◌, ◌++◌, ℕ, List, length}
-use Rattle.page_engine_records.specs.machine.Steps.{Through}
+use Rattle.page_engine_records.specs.machine.NameTexts.{Through}
 use Rattle.page_engine_records.proofs.runs.RecordRun.take_chunk.Given as goal
 
 abbrev pub invariant-loop-rest : goal.invariant-loop-rest

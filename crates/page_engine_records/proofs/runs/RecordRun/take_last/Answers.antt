@@ -1,7 +1,7 @@
 use Rattle.std.proofs.Common.{ap, ◌∙◌, sym, arith}
 use Rattle.page_roff_lines.specs.laws.Cutting.{Point, last_line, line_at, line_of}
-use Rattle.page_engine_records.specs.machine.Steps.{front_of}
-use Rattle.page_engine_records.proofs.FrontLemmas.{ended_stays, no_line, one_line}
+use Rattle.page_engine_records.specs.machine.NameTexts.{front_of}
+use Rattle.page_engine_records.proofs.NameLemmas.{ended_stays, no_line, one_line}
 use Rattle.page_engine_records.proofs.runs.RecordRun.take_last.Goals as goal
 
 pub returns-then-is_settled : goal.returns-then-is_settled

@@ -1,8 +1,8 @@
 use Rattle.std.proofs.Common.{sym, ap, ◌∙◌, take, length, arith}
 use Rattle.std.proofs.lemmas.List.{length-take, take_all}
 use Rattle.page_roff_lines.specs.laws.Cutting.{Point, line_of, lines_within}
-use Rattle.page_engine_records.specs.machine.Steps.{front_of}
-use Rattle.page_engine_records.proofs.FrontLemmas.{no_line, one_line}
+use Rattle.page_engine_records.specs.machine.NameTexts.{front_of}
+use Rattle.page_engine_records.proofs.NameLemmas.{no_line, one_line}
 use Rattle.page_engine_records.proofs.RunLemmas.{ended_through, part_through, some_taken}
 use Rattle.page_engine_records.proofs.runs.RecordRun.take_part.Goals as goal
 

@@ -1,7 +1,7 @@
 use Rattle.std.proofs.Common.{◌≡◌, ℕ, ◌<◌, ◌≤◌, [], append_assoc, ap, arith, refl, replicate, sym, ◌∙◌}
 use Rattle.page_core_base.specs.declared.pieces.Piece.TheVariants.{Text}
 use Rattle.page_fill.specs.machine.Fill.{laid}
-use Rattle.page_fill.proofs.BlankTextLemmas.{texts-parted}
+use Rattle.page_fill.proofs.FilledWords.{texts-parted}
 use Rattle.page_fill.proofs.edges.FillEdge.blank_texts.Goals as goal
 
 pub loop-left-preserved : goal.loop-left-preserved

@@ -1,7 +1,7 @@
 use Rattle.std.proofs.Common.{◌≡◌, ◌==◌, false, append_assoc, ap, arith}
 use Rattle.std.proofs.lemmas.Bool.Decides.{nat_tests}
 use Rattle.page_fill.specs.machine.Fill.{on_sheet}
-use Rattle.page_fill.proofs.BlankTextLemmas.{blanks-some}
+use Rattle.page_fill.proofs.FilledWords.{blanks-some}
 use Rattle.page_fill.proofs.edges.FillEdge.blanks.Goals as goal
 
 pub returns : goal.returns

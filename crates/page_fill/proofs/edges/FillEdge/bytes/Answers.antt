@@ -1,8 +1,8 @@
 use Rattle.std.proofs.Common.{sym, ◌∙◌}
 use Rattle.std.proofs.lemmas.Str.{chars-nil}
-use Rattle.page_core_base.proofs.CharacterLemmas.{characters_of-text, characters_of-none}
+use Rattle.page_core_base.proofs.LatchLemmas.{characters_of-text, characters_of-none}
 use Rattle.page_fill_rows.proofs.PlainLemmas.{characters_of-plain}
-use Rattle.page_fill.proofs.BlankTextLemmas.{blanks-bytes}
+use Rattle.page_fill.proofs.FilledWords.{blanks-bytes}
 use Rattle.page_fill.proofs.edges.FillEdge.bytes.Goals as goal
 
 pub returns-then-is_long_run : goal.returns-then-is_long_run

@@ -1,5 +1,5 @@
 use Rattle.std.proofs.Common.{rules}
-use Rattle.page_fill_rows.proofs.RowLatchLemmas.{latched}
+use Rattle.page_fill_rows.proofs.GroupLemmas.{latched}
 use Rattle.page_fill_rows.specs.machine.RowPlans.{seen}
 use Rattle.page_fill.specs.machine.Fill.{ended}
 use Rattle.page_fill.proofs.edges.FillEdge.end.Goals as goal

@@ -1,5 +1,5 @@
 use Rattle.std.proofs.Common.{rules}
-use Rattle.page_fill_rows.proofs.RowLatchLemmas.{latched}
+use Rattle.page_fill_rows.proofs.GroupLemmas.{latched}
 use Rattle.page_core_base.specs.laws.Views.{piece_of}
 use Rattle.page_fill_rows.specs.machine.RowPlans.{seen}
 use Rattle.page_fill.specs.machine.Fill.{laid_piece}

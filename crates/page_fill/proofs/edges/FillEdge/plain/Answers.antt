@@ -1,6 +1,6 @@
 use Rattle.std.proofs.Common.{append_assoc, sym, ap, ◌∙◌}
 use Rattle.page_fill.specs.machine.Fill.{on_sheet}
-use Rattle.page_fill.proofs.PlainWordLemmas.{text-plain}
+use Rattle.page_fill.proofs.FilledWords.{text-plain}
 use Rattle.page_fill.proofs.edges.FillEdge.plain.Goals as goal
 
 pub returns : goal.returns

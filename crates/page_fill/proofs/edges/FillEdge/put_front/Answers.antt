@@ -9,7 +9,7 @@ use Rattle.page_fill_rows.specs.machine.Plain.{free_cells, word_start, words_tak
 use Rattle.page_fill_rows.specs.OpenRows.{Sheet, over}
 use Rattle.page_fill_cells.specs.Cells.{blank}
 use Rattle.page_fill.specs.declared.edges.FillEdge.{FillEdge}
-use Rattle.page_fill.specs.machine.PlainWords.{whole_words}
+use Rattle.page_fill.specs.machine.Words.{whole_words}
 use Rattle.page_fill.proofs.LetteredPieces.{begun_on}
 use Rattle.page_fill.proofs.LetteredWordLemmas.{front-fits, front-wraps}
 use Rattle.page_fill.proofs.edges.FillEdge.put_front.Goals as goal

@@ -4,7 +4,7 @@ use Rattle.page_core_base.specs.laws.Views.{LaysOut, is_printable_ascii}
 use Rattle.page_core_base.specs.declared.limits.TheConstants.{CELLS}
 use Rattle.page_fill.specs.laws.Views.{is_sound}
 use Rattle.page_fill.specs.declared.edges.FillEdge.{FillEdge}
-use Rattle.page_fill.specs.machine.LetteredWords.{LaysUpTo}
+use Rattle.page_fill.specs.machine.Items.{LaysUpTo}
 use Rattle.page_fill.proofs.edges.FillEdge.put_words.Given as goal
 
 abbrev pub invariant-loop-end : goal.invariant-loop-end

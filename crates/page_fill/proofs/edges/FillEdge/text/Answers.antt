@@ -1,6 +1,6 @@
 use Rattle.std.proofs.Common.{append_assoc, sym, ap, ◌∙◌, refl}
 use Rattle.page_fill.specs.machine.Fill.{on_sheet}
-use Rattle.page_fill.proofs.WordLemmas.{text-none, text-some}
+use Rattle.page_fill.proofs.MarkedPieces.{text-none, text-some}
 use Rattle.page_fill.proofs.edges.FillEdge.text.Goals as goal
 
 pub returns-then-is_empty : goal.returns-then-is_empty

@@ -1,6 +1,6 @@
 use Rattle.std.proofs.Common.{◌≡◌, true, ap, ◌∙◌, arith, rules}
 use Rattle.page_core_base.specs.Rows.{Laid}
-use Rattle.page_fill_rows.proofs.RowLatchLemmas.{latched}
+use Rattle.page_fill_rows.proofs.GroupLemmas.{latched}
 use Rattle.page_fill.specs.laws.Views.{is_in_row}
 use Rattle.page_fill.specs.declared.edges.FillEdge.{FillEdge}
 use Rattle.page_fill_rows.specs.machine.RowPlans.{seen}

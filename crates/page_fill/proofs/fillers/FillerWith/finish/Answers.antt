@@ -1,5 +1,5 @@
 use Rattle.std.proofs.Common.{◌∙◌}
-use Rattle.page_fill.proofs.FillerLaw.{end-at}
+use Rattle.page_fill.proofs.LetteredPieces.{end-at}
 use Rattle.page_fill.proofs.fillers.FillerWith.finish.Goals as goal
 
 pub returns-clause-gets : goal.returns-clause-gets

@@ -1,6 +1,6 @@
 use Rattle.std.proofs.Common.{◌∙◌}
 use Rattle.page_core_base.specs.laws.Views.{piece_of}
-use Rattle.page_fill.proofs.FillerLaw.{piece-at, piece-kept, edge-at}
+use Rattle.page_fill.proofs.LetteredPieces.{piece-at, piece-kept, edge-at}
 use Rattle.page_fill.proofs.fillers.FillerWith.piece.Goals as goal
 
 pub invariant_of-self-else-is_err : goal.invariant_of-self-else-is_err

@@ -1,7 +1,7 @@
 use Rattle.std.proofs.Common.{List, ℕ, replicate, ◌∙◌}
 use Rattle.page_core_base.specs.declared.pieces.Piece.{Piece}
 use Rattle.page_core_base.specs.declared.pieces.Piece.TheVariants.{Text}
-use Rattle.page_fill.proofs.FillerLaw.{again-at, again-kept, again-edge}
+use Rattle.page_fill.proofs.LetteredPieces.{again-at, again-kept, again-edge}
 use Rattle.page_fill.proofs.fillers.FillerWith.take_blanks.Goals as goal
 
 pub invariant_of-self-else-is_err : goal.invariant_of-self-else-is_err

@@ -1,5 +1,5 @@
 use Rattle.std.proofs.Common.{sym, refl, ◌∙◌}
-use Rattle.page_fill.proofs.FillerLaw.{pieces-at}
+use Rattle.page_fill.proofs.LetteredPieces.{pieces-at}
 use Rattle.page_fill.proofs.fillers.FillerWith.take_kept.Goals as goal
 
 pub returns-clause-kept : goal.returns-clause-kept

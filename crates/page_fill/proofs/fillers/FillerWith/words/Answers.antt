@@ -1,6 +1,6 @@
 use Rattle.std.proofs.Common.{◌∙◌}
 use Rattle.page_core_base.specs.laws.Views.{lettered_pieces}
-use Rattle.page_fill.proofs.FillerLaw.{pieces-at, pieces-edge}
+use Rattle.page_fill.proofs.LetteredPieces.{pieces-at, pieces-edge}
 use Rattle.page_fill.proofs.fillers.FillerWith.words.Goals as goal
 
 pub returns-then-is_err-clause-gets : goal.returns-then-is_err-clause-gets

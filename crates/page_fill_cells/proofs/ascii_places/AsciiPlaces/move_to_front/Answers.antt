@@ -1,6 +1,6 @@
 use Rattle.std.proofs.Common.{◌≡◌, ◌-◌, length, take, drop, sym, ap, ◌∙◌, arith}
 use Rattle.page_core_base.specs.laws.Views.{cells_in, is_printable_ascii}
-use Rattle.page_fill_cells.specs.machine.Places.{put_at}
+use Rattle.page_fill_cells.specs.machine.BlankRuns.{put_at}
 use Rattle.page_fill_cells.proofs.PlaceLemmas.{ArePut, back, all-held, are-put, in-part, moved-passes, part-length, slices}
 use Rattle.page_fill_cells.proofs.ascii_places.AsciiPlaces.move_to_front.Goals as goal
 

@@ -1,7 +1,7 @@
 use Rattle.std.proofs.Common.{ℕ, replicate, refl, sym, ap, ◌∙◌, arith}
 use Rattle.std.proofs.lemmas.List.{length-replicate}
 use Rattle.page_core_base.specs.laws.Views.{is_printable}
-use Rattle.page_fill_cells.specs.machine.Places.{put_at}
+use Rattle.page_fill_cells.specs.machine.BlankRuns.{put_at}
 use Rattle.page_fill_cells.proofs.PlaceLemmas.{ArePut, back, are-put, in-blanks, same-passes, slices}
 use Rattle.page_fill_cells.proofs.ascii_places.AsciiPlaces.put_blanks.Goals as goal
 

@@ -1,6 +1,6 @@
 use Rattle.std.proofs.Common.{length, replicate, ap, ◌∙◌, arith}
 use Rattle.std.proofs.lemmas.List.{length-replicate}
-use Rattle.page_fill_cells.specs.machine.Places.{put_at}
+use Rattle.page_fill_cells.specs.machine.BlankRuns.{put_at}
 use Rattle.page_fill_cells.proofs.PlaceLemmas.{ArePut, back, are-put, in-font, slices}
 use Rattle.page_fill_cells.proofs.ascii_places.AsciiPlaces.put_text.Goals as goal
 

@@ -2,7 +2,7 @@ use Rattle.std.proofs.Common.{◌≡◌, ◌+◌, ◌≤◌, ◌++◌, length, t
 use Rattle.std.proofs.lemmas.List.{length-replicate, length-take-le}
 use Rattle.page_core_base.specs.declared.limits.TheConstants.{CELLS}
 use Rattle.page_fill_cells.specs.Cells.{cell_of}
-use Rattle.page_fill_cells.specs.machine.Places.{put_at}
+use Rattle.page_fill_cells.specs.machine.BlankRuns.{put_at}
 use Rattle.page_fill_cells.proofs.PlaceLemmas.{put-before, put-front, put-length}
 use Rattle.page_fill_cells.proofs.BlankRunLemmas.{grown-front, put-run, run-cells}
 use Rattle.page_core_base.specs.Rows.{is_blank_row, row_of}

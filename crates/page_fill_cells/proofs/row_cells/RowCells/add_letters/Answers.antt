@@ -3,7 +3,7 @@ use Rattle.std.proofs.lemmas.List.{length-take-le}
 use Rattle.page_core_base.specs.declared.cells.Cell.{Cell}
 use Rattle.page_core_base.specs.declared.limits.TheConstants.{CELLS}
 use Rattle.page_core_base.specs.laws.Views.{cells_in}
-use Rattle.page_fill_cells.specs.machine.Places.{put_at}
+use Rattle.page_fill_cells.specs.machine.BlankRuns.{put_at}
 use Rattle.page_fill_cells.proofs.PlaceLemmas.{in-length, put-after, put-front, put-length}
 use Rattle.page_fill_cells.proofs.BlankRunLemmas.{cut-run}
 use Rattle.page_fill_cells.proofs.row_cells.RowCells.add_letters.Goals as goal

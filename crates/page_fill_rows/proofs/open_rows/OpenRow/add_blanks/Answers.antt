@@ -1,6 +1,6 @@
 use Rattle.std.proofs.Common.{◌+◌, ◌≤◌, length, arith, rules}
 use Rattle.page_core_base.specs.declared.limits.TheConstants.{CELLS}
-use Rattle.page_fill_rows.proofs.PutBlankLemmas.{sound-blanks}
+use Rattle.page_fill_rows.proofs.WrapLemmas.{sound-blanks}
 use Rattle.page_fill_rows.proofs.open_rows.OpenRow.add_blanks.Goals as goal
 
 pub invariant_of-self : goal.invariant_of-self

@@ -2,7 +2,7 @@ use Rattle.std.proofs.Common.{◌≡◌, true, false, ◌==◌, ◌-◌, refl, a
 use Rattle.std.specs.Prelude.{if◌then◌else◌}
 use Rattle.std.proofs.lemmas.Bool.Decides.{nat_tests}
 use Rattle.page_fill_cells.proofs.PlaceLemmas.{in-length}
-use Rattle.page_fill_rows.proofs.WordStartLemmas.{sound-words}
+use Rattle.page_fill_rows.proofs.GroupLemmas.{sound-words}
 use Rattle.page_fill_rows.proofs.open_rows.OpenRow.add_words.Goals as goal
 use Rattle.page_fill_rows.proofs.open_rows.OpenRow.add_words.Goals.{then-start-eq0, else-start-eq0}
 

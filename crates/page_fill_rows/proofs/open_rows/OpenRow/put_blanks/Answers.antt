@@ -1,8 +1,8 @@
 use Rattle.std.proofs.Common.{append_assoc, ap, arith, refl, sym, ◌∙◌, ◌≡◌, [], replicate}
 use Rattle.page_fill_cells.specs.Cells.{cell_of}
 use Rattle.page_fill_rows.specs.machine.Sheets.{letters}
-use Rattle.page_fill_rows.proofs.PutBlankLemmas.{blanks-parted}
-use Rattle.page_fill_rows.proofs.SheetLemmas.{cells-more}
+use Rattle.page_fill_rows.proofs.WrapLemmas.{blanks-parted}
+use Rattle.page_fill_rows.proofs.CharacterLemmas.{cells-more}
 use Rattle.page_fill_rows.proofs.open_rows.OpenRow.put_blanks.Goals as goal
 
 pub loop-left-preserved-then-part-gt0 : goal.loop-left-preserved-then-part-gt0

@@ -1,7 +1,7 @@
 use Rattle.std.proofs.Common.{◌≡◌, ◌-◌, length, append_assoc, ap, arith, refl, sym, ◌∙◌}
 use Rattle.std.proofs.lemmas.Bool.{eqb-true}
 use Rattle.page_fill_rows.specs.OpenRows.{Sheet}
-use Rattle.page_fill_rows.proofs.SheetLemmas.{spaces-more, spaces-done, spaces-none}
+use Rattle.page_fill_rows.proofs.CharacterLemmas.{spaces-more, spaces-done, spaces-none}
 use Rattle.page_fill_rows.proofs.open_rows.OpenRow.put_spaces.Goals as goal
 
 pub loop-init : goal.loop-init

@@ -1,4 +1,4 @@
-use Rattle.page_fill_rows.proofs.RowLatchLemmas.{row_given}
+use Rattle.page_fill_rows.proofs.GroupLemmas.{row_given}
 use Rattle.page_fill_rows.proofs.row_latches.RowLatchRowOut.give_ascii.Goals as goal
 
 pub returns-then-is_none-clause-rows : goal.returns-then-is_none-clause-rows

@@ -1,4 +1,4 @@
-use Rattle.page_fill_rows.proofs.RowLatchLemmas.{note_given}
+use Rattle.page_fill_rows.proofs.GroupLemmas.{note_given}
 use Rattle.page_fill_rows.proofs.row_latches.RowLatchRowOut.report.Goals as goal
 
 pub returns-then-is_none : goal.returns-then-is_none

@@ -1,6 +1,6 @@
 use Rattle.std.proofs.Common.{◌≤◌, length, ap, sym, ◌∙◌}
-use Rattle.page_roff_blocks.specs.machine.LinePlaces.{is_block}
-use Rattle.page_roff_blocks.proofs.EndLemmas.{slice_opens}
+use Rattle.page_roff_blocks.specs.machine.Steps.{is_block}
+use Rattle.page_roff_blocks.proofs.LinePartLemmas.{slice_opens}
 use Rattle.page_roff_blocks.proofs.line_places.LinePlace.opens_block.Goals as goal
 
 pub returns-in-Some : goal.returns-in-Some

@@ -1,7 +1,7 @@
 use Rattle.std.proofs.Common.{false, ◌≤◌, length, drop, ap, sym, ◌∙◌}
 use Rattle.page_roff_blocks.specs.Parts.{part_of}
-use Rattle.page_roff_blocks.specs.machine.LinePlaces.{place_after, parts_at}
-use Rattle.page_roff_blocks.proofs.EndLemmas.{slice_ends, slice_parts, place_within}
+use Rattle.page_roff_blocks.specs.machine.Steps.{place_after, parts_at}
+use Rattle.page_roff_blocks.proofs.LinePartLemmas.{slice_ends, slice_parts, place_within}
 use Rattle.page_roff_blocks.proofs.line_places.LinePlace.pass_of_several.Goals as goal
 
 pub place_after-self-requires : goal.place_after-self-requires

@@ -1,4 +1,4 @@
-use Rattle.page_roff_definitions.proofs.CapLemmas.{body_fits}
+use Rattle.page_roff_definitions.proofs.ClosingLemmas.{body_fits}
 use Rattle.page_roff_definitions.proofs.buffers.BodyBuffer.caps_law.Goals as goal
 
 pub returns : goal.returns

@@ -1,7 +1,7 @@
 use Rattle.std.proofs.Common.{◌≡◌, length, refl, sym, arith}
 use Rattle.std.specs.List.{prefix_len}
 use Rattle.page_roff_syntax.specs.laws.Views.{is_plain}
-use Rattle.page_roff_effects.proofs.PlainLemmas.{plain_laid, counted_none}
+use Rattle.page_roff_effects.proofs.FreeLemmas.{plain_laid, counted_none}
 use Rattle.page_roff_effects.proofs.actions.Actions.expand_unless_plain.Goals as goal
 
 pub returns-then-plain_len-text : goal.returns-then-plain_len-text

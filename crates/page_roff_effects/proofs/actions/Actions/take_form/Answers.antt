@@ -2,7 +2,7 @@ use Rattle.std.proofs.Common.{◌≡◌, length, ◌∙◌, sym, arith}
 use Rattle.std.specs.List.{prefix_len}
 use Rattle.page_roff_syntax.specs.laws.Views.{is_plain}
 use Rattle.page_roff_effects.specs.machine.Acting.{measured}
-use Rattle.page_roff_effects.proofs.PlainLemmas.{plain_taken}
+use Rattle.page_roff_effects.proofs.FreeLemmas.{plain_taken}
 use Rattle.page_roff_effects.proofs.actions.Actions.take_form.Goals as goal
 
 pub returns-then-plain_len-text : goal.returns-then-plain_len-text

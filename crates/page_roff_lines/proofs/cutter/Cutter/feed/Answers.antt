@@ -1,7 +1,6 @@
 use Rattle.std.proofs.Common.{◌-◌, take, sym, ap, ◌∙◌}
 use Rattle.page_roff_lines.specs.laws.Cutting.{Point, point_after, lines_within}
-use Rattle.page_roff_lines.proofs.PointLemmas.{open_point, free_point, fed}
-use Rattle.page_roff_lines.proofs.HeldLaws.{fed-held}
+use Rattle.page_roff_lines.proofs.PointLemmas.{open_point, free_point, fed, fed-held}
 use Rattle.page_roff_lines.proofs.LineAgreement.{fed-of_page}
 use Rattle.page_roff_lines.proofs.cutter.Cutter.feed.Goals as goal
 

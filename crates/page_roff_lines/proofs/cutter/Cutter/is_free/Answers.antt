@@ -4,7 +4,7 @@ use Rattle.page_roff_decoding.specs.laws.Views.{line_limit_is}
 use Rattle.page_roff_lines.specs.machine.Open.{kept_of}
 use Rattle.page_roff_lines.specs.Lines.{decode_line}
 use Rattle.page_roff_lines.specs.laws.Cutting.{Cutting, line_of}
-use Rattle.page_roff_lines.proofs.PlainLines.{decode_line-plain}
+use Rattle.page_roff_lines.proofs.ReadLemmas.{decode_line-plain}
 use Rattle.page_roff_lines.proofs.cutter.Cutter.is_free.Goals as goal
 
 pub returns : goal.returns

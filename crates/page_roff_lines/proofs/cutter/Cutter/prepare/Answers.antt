@@ -3,13 +3,12 @@ use Rattle.std.specs.Prelude.{◌||◌, nat_lt}
 use Rattle.std.specs.List.{list_all}
 use Rattle.page_roff_decoding.specs.Decoding.{line_limit, is_printable, characters, all_bytes, choice_of, characters_within, bad_notes, limit_notes}
 use Rattle.page_roff_decoding.specs.laws.Views.{line_limit_is}
-use Rattle.page_roff_decoding.proofs.FineLemmas.{plain-is_line}
-use Rattle.page_roff_decoding.proofs.PlainLemmas.{choice_of-plain}
+use Rattle.page_roff_decoding.proofs.SequenceLemmas.{plain-is_line, choice_of-plain}
 use Rattle.page_roff_lines.specs.machine.Open.{Open, kept_of}
 use Rattle.page_roff_lines.specs.Lines.{Line, decode_line}
 use Rattle.page_roff_lines.specs.laws.Cutting.{Point, line_of}
 use Rattle.page_roff_lines.proofs.PointLemmas.{waiting_point}
-use Rattle.page_roff_lines.proofs.PlainLines.{decode_line-plain}
+use Rattle.page_roff_lines.proofs.ReadLemmas.{decode_line-plain}
 use Rattle.page_roff_lines.proofs.cutter.Cutter.prepare.Goals as goal
 use Rattle.page_roff_lines.proofs.cutter.Cutter.prepare.Goals.{then-cut, else-cut}
 

@@ -3,8 +3,8 @@ use Rattle.std.proofs.lemmas.List.{take_min, length-take-le}
 use Rattle.page_roff_decoding.specs.Decoding.{is_printable, line_limit}
 use Rattle.page_roff_decoding.specs.laws.Views.{line_limit_is}
 use Rattle.page_roff_decoding.proofs.ScanLemmas.{all-append, all-take}
-use Rattle.page_roff_lines.specs.machine.Held.{extend}
-use Rattle.page_roff_lines.proofs.HeldLemmas.{take-append-room, if_ok}
+use Rattle.page_roff_lines.specs.machine.Open.{extend}
+use Rattle.page_roff_lines.proofs.PointLemmas.{take-append-room, if_ok}
 use Rattle.page_roff_lines.proofs.held.HeldText.extend.Goals as goal
 use Rattle.page_roff_lines.proofs.held.HeldText.extend.Goals.{then-self, else-self}
 

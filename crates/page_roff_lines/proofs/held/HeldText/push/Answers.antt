@@ -1,8 +1,8 @@
 use Rattle.std.proofs.Common.{◌≡◌, ◌∷◌, [], ◌++◌, take, refl, sym, ◌∙◌, arith}
 use Rattle.page_roff_decoding.specs.Decoding.{line_limit}
 use Rattle.page_roff_decoding.specs.laws.Views.{line_limit_is}
-use Rattle.page_roff_lines.specs.machine.Held.{extend}
-use Rattle.page_roff_lines.proofs.HeldLemmas.{take-append-one, take-append-full}
+use Rattle.page_roff_lines.specs.machine.Open.{extend}
+use Rattle.page_roff_lines.proofs.PointLemmas.{take-append-one, take-append-full}
 use Rattle.page_roff_lines.proofs.held.HeldText.push.Goals as goal
 use Rattle.page_roff_lines.proofs.held.HeldText.push.Goals.{then-len-lt-LINE, else-len-lt-LINE}
 

@@ -1,8 +1,8 @@
 use Rattle.std.proofs.Common.{◌≡◌, take, ap, ◌∙◌}
 use Rattle.page_roff_decoding.specs.Decoding.{line_limit, is_printable}
 use Rattle.page_roff_decoding.proofs.ScanLemmas.{all-take}
-use Rattle.page_roff_lines.specs.machine.Held.{Held, extend}
-use Rattle.page_roff_lines.proofs.FreeLines.{less-free}
+use Rattle.page_roff_lines.specs.machine.Open.{Held, extend}
+use Rattle.page_roff_lines.proofs.LineAgreement.{less-free}
 use Rattle.page_roff_lines.proofs.held.HeldText.set.Goals as goal
 
 pub invariant_of-self : goal.invariant_of-self

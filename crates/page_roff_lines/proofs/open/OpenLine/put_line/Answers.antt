@@ -1,6 +1,6 @@
 use Rattle.std.proofs.Common.{◌≡◌, true, refl}
 use Rattle.page_roff_lines.specs.declared.Mode.TheVariants.{Plain}
-use Rattle.page_roff_lines.proofs.LineLemmas.{text-line}
+use Rattle.page_roff_lines.proofs.RunLemmas.{text-line}
 use Rattle.page_roff_lines.proofs.open.OpenLine.put_line.Goals as goal
 
 pub returns-clause-next : goal.returns-clause-next

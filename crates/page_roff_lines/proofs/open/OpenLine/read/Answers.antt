@@ -1,6 +1,6 @@
 use Rattle.std.proofs.Common.{◌≡◌, ◌+◌, length, take, ap, ◌∙◌, arith}
 use Rattle.std.proofs.lemmas.List.{length-take-le}
-use Rattle.page_roff_lines.proofs.OpenLaws.{open_after-consumed}
+use Rattle.page_roff_lines.proofs.PointLemmas.{open_after-consumed}
 use Rattle.page_roff_lines.proofs.open.OpenLine.read.Goals as goal
 
 pub returns-then-len-gt0-clause-consumed : goal.returns-then-len-gt0-clause-consumed

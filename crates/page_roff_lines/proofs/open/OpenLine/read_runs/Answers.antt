@@ -2,7 +2,7 @@ use Rattle.std.proofs.Common.{◌≡◌, ◌+◌, ◌-◌, length, take, refl, s
 use Rattle.std.proofs.lemmas.List.{length-take-le, length-drop}
 use Rattle.page_roff_decoding.proofs.ScanLemmas.{rest_of}
 use Rattle.page_roff_lines.specs.machine.Open.{open_after, whole_lines}
-use Rattle.page_roff_lines.proofs.OpenLaws.{open_after-consumed, run-open_after, run-none, byte-open_after, byte-lines}
+use Rattle.page_roff_lines.proofs.PointLemmas.{open_after-consumed, run-open_after, run-none, byte-open_after, byte-lines}
 use Rattle.page_roff_lines.proofs.open.OpenLine.read_runs.Goals as goal
 
 pub loop-at-init : goal.loop-at-init

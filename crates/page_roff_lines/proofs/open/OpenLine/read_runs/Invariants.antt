@@ -1,5 +1,5 @@
 use Rattle.std.proofs.Common.{◌-◌, length}
-use Rattle.page_roff_lines.proofs.OpenLaws.{IsReadTo}
+use Rattle.page_roff_lines.proofs.PointLemmas.{IsReadTo}
 use Rattle.page_roff_lines.proofs.open.OpenLine.read_runs.Given as goal
 
 abbrev pub invariant-loop-at : goal.invariant-loop-at

@@ -1,5 +1,5 @@
 use Rattle.std.proofs.Common.{take, sym, subst, ◌∙◌}
-use Rattle.page_roff_lines.specs.machine.Run.{IsRead}
+use Rattle.page_roff_lines.specs.machine.Open.{IsRead}
 use Rattle.page_roff_lines.proofs.ReadLemmas.{comment-read, none-read}
 use Rattle.page_roff_lines.proofs.open.OpenLine.run_len.Goals as goal
 

@@ -1,7 +1,7 @@
 use Rattle.std.proofs.Common.{◌≡◌, take, get_or, refl, ◌∙◌, arith}
 use Rattle.page_roff_lines.specs.laws.Views.{newline}
 use Rattle.page_roff_lines.specs.machine.Open.{open_after}
-use Rattle.page_roff_lines.proofs.OpenLaws.{byte-lines, byte-open_after}
+use Rattle.page_roff_lines.proofs.PointLemmas.{byte-lines, byte-open_after}
 use Rattle.page_roff_lines.proofs.open.OpenLine.take_line.Goals as goal
 
 pub returns-clause-after : goal.returns-clause-after

@@ -1,7 +1,6 @@
 use Rattle.std.proofs.Common.{◌≡◌, take, refl, sym, ap, ◌∙◌, arith}
 use Rattle.std.proofs.lemmas.List.{length-take-le}
-use Rattle.page_roff_lines.specs.machine.Open.{open_after, whole_lines}
-use Rattle.page_roff_lines.specs.machine.Run.{with_run}
+use Rattle.page_roff_lines.specs.machine.Open.{open_after, whole_lines, with_run}
 use Rattle.page_roff_lines.proofs.open.OpenLine.take_run.Goals as goal
 
 pub put_run-requires-clause-consumed : goal.put_run-requires-clause-consumed

@@ -2,7 +2,7 @@ use Rattle.std.proofs.Common.{◌≡◌, ap, ◌∙◌}
 use Rattle.page_roff_machine.proofs.AtOnceLemmas.{may_call_on_page}
 use Rattle.page_roff_machine.specs.declared.runners.Runner.{Runner}
 use Rattle.page_roff_machine.specs.machine.Moving.{called}
-use Rattle.page_roff_machine.specs.machine.AtOnce.{page_after}
+use Rattle.page_roff_machine.specs.machine.Machines.{page_after}
 use Rattle.page_roff_machine.proofs.runners.Runner.enter_call.Goals as goal
 
 pub call-requires : goal.call-requires

@@ -3,7 +3,7 @@ use Rattle.std.proofs.lemmas.List.Edits.{length-insert, length-remove}
 use Rattle.std.specs.List.{insert, remove}
 use Rattle.page_roff_names.specs.Names.{size, Definition}
 use Rattle.page_roff_names.specs.laws.Views.{definition_at}
-use Rattle.page_roff_names.specs.machine.Layout.{entry}
+use Rattle.page_roff_names.specs.machine.Changes.{entry}
 use Rattle.page_roff_names.proofs.Laid.{Lies, Reads, lies, closed, count, appended, inserted, removed, reads, size-insert, size-remove}
 use Rattle.page_roff_names.proofs.rows.Row.rename.Goals as goal
 

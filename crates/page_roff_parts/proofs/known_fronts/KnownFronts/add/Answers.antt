@@ -2,7 +2,7 @@ use Rattle.std.proofs.Common.{◌≡◌, ◌++◌, length, take, drop, arith}
 use Rattle.std.specs.Vec.{vec_len}
 use Rattle.std.proofs.lemmas.List.Elements.{All-push}
 use Rattle.page_roff_parts.specs.machine.Known.{AreFronts, IsKnown, StayBefore}
-use Rattle.page_roff_parts.proofs.KnownLemmas.{all_more, known_last, written_back}
+use Rattle.page_roff_parts.proofs.FrontLemmas.{all_more, known_last, written_back}
 use Rattle.page_roff_parts.proofs.known_fronts.KnownFronts.add.Goals as goal
 
 pub invariant_of-self-clause-are_known : goal.invariant_of-self-clause-are_known

@@ -2,7 +2,7 @@ use Rattle.std.proofs.Common.{◌<◌, ◌^◌, [], None, refl, ap, ◌∙◌, a
 use Rattle.page_roff_blocks.specs.laws.Views.{BlockCursor, at_line}
 use Rattle.page_roff_stack.specs.declared.input_frames.InputFrame.{InputFrame}
 use Rattle.page_roff_stack.specs.declared.source_kinds.SourceKind.TheVariants as sources
-use Rattle.page_roff_stack.proofs.NewLemmas.{span, place_set}
+use Rattle.page_roff_stack.proofs.InputStackLemmas.{span, place_set}
 use Rattle.page_roff_stack.proofs.input_frames.InputFrame.at.Goals as goal
 
 pub returns : goal.returns

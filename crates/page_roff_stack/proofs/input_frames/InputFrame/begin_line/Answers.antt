@@ -1,7 +1,5 @@
 use Rattle.std.proofs.Common.{◌≡◌, true}
-use Rattle.page_roff_stack.specs.machine.Changes.{begins_line}
-use Rattle.page_roff_stack.specs.machine.Held.{span_text}
-use Rattle.page_roff_stack.specs.machine.InputFrames.{frame_of}
+use Rattle.page_roff_stack.specs.machine.Stacks.{begins_line, span_text, frame_of}
 use Rattle.page_roff_stack.proofs.InputFrameLemmas.{IsPassed, IsStart, begun_view, begun_held}
 use Rattle.page_roff_stack.proofs.input_frames.InputFrame.begin_line.Goals as goal
 

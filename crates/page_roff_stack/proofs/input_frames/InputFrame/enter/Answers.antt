@@ -2,8 +2,8 @@ use Rattle.std.proofs.Common.{◌≡◌, ◌++◌, length, drop, Some, None, ref
 use Rattle.std.proofs.Math.Seq.{drop-append_seam}
 use Rattle.page_roff_stack.specs.declared.input_frames.InputFrame.{InputFrame}
 use Rattle.page_roff_stack.specs.declared.source_kinds.SourceKind.TheVariants as sources
-use Rattle.page_roff_stack.specs.machine.Held.{AreArgumentsIn}
-use Rattle.page_roff_stack.proofs.NewLemmas.{span, IsNew, new_of, body_set}
+use Rattle.page_roff_stack.specs.machine.Stacks.{AreArgumentsIn}
+use Rattle.page_roff_stack.proofs.InputStackLemmas.{span, IsNew, new_of, body_set}
 use Rattle.page_roff_stack.proofs.input_frames.InputFrame.enter.Goals as goal
 
 pub returns : goal.returns

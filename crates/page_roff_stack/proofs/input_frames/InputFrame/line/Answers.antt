@@ -1,7 +1,7 @@
 use Rattle.std.proofs.Common.{◌≡◌, ◌==◌, true, false, length, ap, sym, ◌∙◌}
 use Rattle.page_roff_values.specs.Values.{lines_in}
-use Rattle.page_roff_stack.specs.machine.Changes.{AreShort}
-use Rattle.page_roff_stack.proofs.LineLemmas.{no_lines, some_line}
+use Rattle.page_roff_stack.specs.machine.Stacks.{AreShort}
+use Rattle.page_roff_stack.proofs.InputStackLemmas.{no_lines, some_line}
 use Rattle.page_roff_stack.proofs.InputFrameLemmas.{next_line_is}
 use Rattle.page_roff_stack.proofs.input_frames.InputFrame.line.Goals as goal
 

@@ -1,7 +1,7 @@
 use Rattle.std.proofs.Common.{None, refl}
 use Rattle.page_roff_stack.specs.declared.input_frames.InputFrame.{InputFrame}
 use Rattle.page_roff_stack.specs.declared.source_kinds.SourceKind.TheVariants as sources
-use Rattle.page_roff_stack.proofs.NewLemmas.{span, empty_set}
+use Rattle.page_roff_stack.proofs.InputStackLemmas.{span, empty_set}
 use Rattle.page_roff_stack.proofs.input_frames.InputFrame.page.Goals as goal
 
 pub returns : goal.returns

@@ -1,6 +1,5 @@
 use Rattle.std.proofs.Common.{ap, ◌∙◌}
-use Rattle.page_roff_stack.specs.machine.Changes.{past}
-use Rattle.page_roff_stack.specs.machine.InputFrames.{frame_of}
+use Rattle.page_roff_stack.specs.machine.Stacks.{past, frame_of}
 use Rattle.page_roff_stack.proofs.InputFrameLemmas.{past_view, past_held}
 use Rattle.page_roff_stack.proofs.input_frames.InputFrame.pass.Goals as goal
 

@@ -2,7 +2,7 @@ use Rattle.std.proofs.Common.{◌<◌, ◌^◌, [], None, refl, ap, ◌∙◌, a
 use Rattle.page_roff_blocks.specs.laws.Views.{BlockCursor, after_part}
 use Rattle.page_roff_blocks.specs.machine.Languages.{page}
 use Rattle.page_roff_stack.specs.declared.input_frames.InputFrame.{InputFrame}
-use Rattle.page_roff_stack.proofs.NewLemmas.{span, frame, page_none, place_set}
+use Rattle.page_roff_stack.proofs.InputStackLemmas.{span, frame, page_none, place_set}
 use Rattle.page_roff_stack.proofs.input_frames.InputFrame.pass_page_line.Goals as goal
 
 pub returns : goal.returns

@@ -4,10 +4,8 @@ use Rattle.page_roff_syntax.specs.laws.Views.{text_view}
 use Rattle.page_roff_values.specs.Values.{lines_in}
 use Rattle.page_roff_stack.specs.declared.input_frames.InputFrame.{InputFrame}
 use Rattle.page_roff_stack.specs.declared.source_kinds.SourceKind.TheVariants as sources
-use Rattle.page_roff_stack.specs.machine.Held.{turning_in}
-use Rattle.page_roff_stack.specs.machine.Stacks.{first_text}
-use Rattle.page_roff_stack.specs.machine.Views.{packed_text, unpacked}
-use Rattle.page_roff_stack.proofs.NewLemmas.{span, IsNew, new_of, unturned, loop_set}
+use Rattle.page_roff_stack.specs.machine.Stacks.{turning_in, first_text, packed_text, unpacked}
+use Rattle.page_roff_stack.proofs.InputStackLemmas.{span, IsNew, new_of, unturned, loop_set}
 use Rattle.page_roff_stack.proofs.TurnLemmas.{IsLoopCut, loop_condition, loop_lines, loop_turns}
 use Rattle.page_roff_stack.proofs.input_frames.InputFrame.repeat.Goals as goal
 

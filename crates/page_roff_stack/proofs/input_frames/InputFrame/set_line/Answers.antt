@@ -2,7 +2,7 @@ use Rattle.std.proofs.Common.{◌≡◌, ◌<◌, ◌^◌, ◌++◌, [], ◌∷�
 use Rattle.page_roff_blocks.specs.laws.Views.{at_line}
 use Rattle.page_roff_blocks.specs.machine.Languages.{page}
 use Rattle.page_roff_stack.specs.declared.input_frames.InputFrame.{InputFrame}
-use Rattle.page_roff_stack.proofs.NewLemmas.{span, frame, IsNew, new_of, page_set, page_none}
+use Rattle.page_roff_stack.proofs.InputStackLemmas.{span, frame, IsNew, new_of, page_set, page_none}
 use Rattle.page_roff_stack.proofs.input_frames.InputFrame.set_line.Goals as goal
 
 pub returns : goal.returns

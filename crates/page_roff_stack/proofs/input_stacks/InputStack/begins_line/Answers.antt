@@ -1,7 +1,7 @@
 use Rattle.std.proofs.Common.{ap, ◌∙◌}
 use Rattle.page_roff_stack.specs.machine.InputStacks.{stack_of}
 use Rattle.page_roff_stack.specs.machine.Stacks.{next_of, is_line}
-use Rattle.page_roff_stack.proofs.StackLemmas.{line_next}
+use Rattle.page_roff_stack.proofs.InputStackLemmas.{line_next}
 use Rattle.page_roff_stack.proofs.input_stacks.InputStack.begins_line.Goals as goal
 
 pub returns : goal.returns

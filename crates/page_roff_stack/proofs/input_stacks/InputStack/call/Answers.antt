@@ -4,8 +4,7 @@ use Rattle.page_roff_blocks.specs.machine.Machine.{depth, entered}
 use Rattle.page_roff_values.specs.Values.{arguments_in, lines_in}
 use Rattle.page_roff_stack.specs.declared.input_stacks.Caller.{Caller}
 use Rattle.page_roff_stack.specs.declared.input_stacks.InputStack.TheInside.{Inside}
-use Rattle.page_roff_stack.specs.machine.InputFrames.{frame_of}
-use Rattle.page_roff_stack.specs.machine.Stacks.{call_of}
+use Rattle.page_roff_stack.specs.machine.Stacks.{frame_of, call_of}
 use Rattle.page_roff_stack.proofs.InputStackLemmas.{may_be_called, call_room, IsCalled, called_stack, called_held}
 use Rattle.page_roff_stack.proofs.input_stacks.InputStack.call.Goals as goal
 

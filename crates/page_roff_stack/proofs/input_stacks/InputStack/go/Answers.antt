@@ -1,9 +1,7 @@
 use Rattle.std.proofs.Common.{ap, ◌∙◌}
-use Rattle.page_roff_stack.specs.machine.Changes.{went}
+use Rattle.page_roff_stack.specs.machine.Stacks.{went, with_top}
 use Rattle.page_roff_stack.specs.machine.InputStacks.{stack_of}
-use Rattle.page_roff_stack.specs.machine.Stacks.{with_top}
-use Rattle.page_roff_stack.proofs.InputStackLemmas.{went_kind, top_held}
-use Rattle.page_roff_stack.proofs.StackLemmas.{may_go}
+use Rattle.page_roff_stack.proofs.InputStackLemmas.{went_kind, top_held, may_go}
 use Rattle.page_roff_stack.proofs.input_stacks.InputStack.go.Goals as goal
 
 pub invariant_of-self : goal.invariant_of-self

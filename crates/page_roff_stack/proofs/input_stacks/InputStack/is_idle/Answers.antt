@@ -1,8 +1,7 @@
 use Rattle.std.proofs.Common.{ap, sym, ◌∙◌, vec_len}
 use Rattle.page_roff_stack.specs.machine.InputStacks.{stack_of}
 use Rattle.page_roff_stack.specs.machine.Stacks.{next_of, is_nothing}
-use Rattle.page_roff_stack.proofs.InputStackLemmas.{none_around, some_around}
-use Rattle.page_roff_stack.proofs.StackLemmas.{alone_over, something_around}
+use Rattle.page_roff_stack.proofs.InputStackLemmas.{none_around, some_around, alone_over, something_around}
 use Rattle.page_roff_stack.proofs.input_stacks.InputStack.is_idle.Goals as goal
 
 pub returns-then-is_empty : goal.returns-then-is_empty

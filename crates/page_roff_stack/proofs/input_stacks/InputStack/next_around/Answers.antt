@@ -2,8 +2,7 @@ use Rattle.std.proofs.Common.{◌≡◌, List, ℕ, Option, Some, None, ap, sym,
 use Rattle.page_roff_syntax.specs.laws.Views.{opened_view}
 use Rattle.page_roff_stack.specs.machine.InputStacks.{stack_of}
 use Rattle.page_roff_stack.specs.machine.Stacks.{turn_in, turn_or_end, next_around}
-use Rattle.page_roff_stack.proofs.InputStackLemmas.{some_around}
-use Rattle.page_roff_stack.proofs.StackLemmas.{end_around}
+use Rattle.page_roff_stack.proofs.InputStackLemmas.{some_around, end_around}
 use Rattle.page_roff_stack.proofs.input_stacks.InputStack.next_around.Goals as goal
 
 pub returns-in-Some-clause-value : goal.returns-in-Some-clause-value

@@ -1,10 +1,8 @@
 use Rattle.std.proofs.Common.{[], refl, ap, ◌∙◌}
 use Rattle.page_roff_stack.specs.declared.input_stacks.InputStack.TheInside.{Inside}
-use Rattle.page_roff_stack.specs.machine.Changes.{page_passed}
+use Rattle.page_roff_stack.specs.machine.Stacks.{page_passed, Stack, next_of, is_nothing}
 use Rattle.page_roff_stack.specs.machine.InputStacks.{stack_of}
-use Rattle.page_roff_stack.specs.machine.Stacks.{Stack, next_of, is_nothing}
-use Rattle.page_roff_stack.proofs.InputStackLemmas.{callers_none, page_of, line_passed}
-use Rattle.page_roff_stack.proofs.StackLemmas.{nothing_there}
+use Rattle.page_roff_stack.proofs.InputStackLemmas.{callers_none, page_of, line_passed, nothing_there}
 use Rattle.page_roff_stack.proofs.input_stacks.InputStack.pass_page_line.Goals as goal
 
 pub invariant_of-self : goal.invariant_of-self

@@ -5,9 +5,7 @@ use Rattle.page_roff_blocks.specs.machine.Machine.{depth, looped}
 use Rattle.page_roff_values.specs.Values.{lines_in}
 use Rattle.page_roff_stack.specs.declared.input_stacks.Caller.{Caller}
 use Rattle.page_roff_stack.specs.declared.input_stacks.InputStack.TheInside.{Inside}
-use Rattle.page_roff_stack.specs.machine.InputFrames.{frame_of}
-use Rattle.page_roff_stack.specs.machine.Stacks.{first_text, loop_of}
-use Rattle.page_roff_stack.specs.machine.Views.{packed_text, unpacked}
+use Rattle.page_roff_stack.specs.machine.Stacks.{frame_of, first_text, loop_of, packed_text, unpacked}
 use Rattle.page_roff_stack.proofs.InputStackLemmas.{may_be_called, call_room, IsCalled, looped_stack, called_held}
 use Rattle.page_roff_stack.proofs.input_stacks.InputStack.repeat.Goals as goal
 

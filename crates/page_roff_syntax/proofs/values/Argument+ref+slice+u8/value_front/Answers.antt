@@ -2,7 +2,7 @@ use Rattle.std.proofs.Common.{◌≡◌, true, sym, ap, ◌∙◌}
 use Rattle.page_core_base.specs.Messages.{text_front}
 use Rattle.page_roff_syntax.specs.Arguments.{is_quoted}
 use Rattle.page_core_base.specs.Texts.{unpaired}
-use Rattle.page_core_base.proofs.TextLemmas.{front_again}
+use Rattle.page_core_base.proofs.LatchLemmas.{front_again}
 use Rattle.page_roff_syntax.proofs.values.Argument+ref+slice+u8.value_front.Goals as goal
 
 pub returns-then-is_quoted : goal.returns-then-is_quoted

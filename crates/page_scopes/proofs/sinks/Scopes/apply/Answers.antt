@@ -1,6 +1,5 @@
 use Rattle.std.proofs.Common.{rules}
-use Rattle.page_core_base.proofs.LatchLemmas.{latched}
-use Rattle.page_core_base.proofs.PieceLatchLemmas.{emits_faults}
+use Rattle.page_core_base.proofs.LatchLemmas.{latched, emits_faults}
 use Rattle.page_scopes.specs.laws.Views.{event_items}
 use Rattle.page_sets_lines.specs.laws.Events.{event_view}
 use Rattle.page_scopes.proofs.sinks.Scopes.apply.Goals as goal

@@ -1,6 +1,5 @@
 use Rattle.std.proofs.Common.{rules}
-use Rattle.page_core_base.proofs.LatchLemmas.{latched}
-use Rattle.page_core_base.proofs.PieceLatchLemmas.{emits_faults}
+use Rattle.page_core_base.proofs.LatchLemmas.{latched, emits_faults}
 use Rattle.page_scopes.specs.laws.Views.{end_items}
 use Rattle.page_scopes.proofs.sinks.Scopes.finish.Goals as goal
 

@@ -1,11 +1,9 @@
 use Rattle.std.proofs.Common.{◌≤◌, ◌∙◌, sym, append_assoc, arith, vec_capacity}
 use Rattle.page_sets_lines.specs.laws.Events.{event_view}
 use Rattle.page_scopes_tree.proofs.FitLemmas.{scopes-sound}
-use Rattle.page_scopes_tree.proofs.StackLemmas.{items_by_two, edge_by_two, scopes_fit}
+use Rattle.page_scopes_tree.proofs.EdgeLemmas.{items_by_two, edge_by_two, scopes_fit}
 use Rattle.page_scopes_tree.specs.laws.Views.{comes, does}
-use Rattle.page_scopes_tree.specs.machine.Frames.{framed}
-use Rattle.page_scopes_tree.specs.machine.Nests.{scopes_nesting}
-use Rattle.page_scopes_tree.specs.machine.Stacks.{stack_edge}
+use Rattle.page_scopes_tree.specs.machine.Stacks.{framed, scopes_nesting, stack_edge}
 use Rattle.page_core_base.specs.declared.limits.TheConstants.{SCOPES}
 use Rattle.page_scopes_tree.specs.declared.acts.Act.TheVariants.{Event}
 use Rattle.page_scopes_tree.proofs.scope_stacks.ScopeStack.apply.Goals as goal

@@ -1,10 +1,8 @@
 use Rattle.std.proofs.Common.{◌∙◌, sym}
 use Rattle.page_scopes_tree.proofs.FitLemmas.{scopes-sound}
-use Rattle.page_scopes_tree.proofs.StackLemmas.{items_by_one, edge_by_one}
+use Rattle.page_scopes_tree.proofs.EdgeLemmas.{items_by_one, edge_by_one}
 use Rattle.page_scopes_tree.specs.laws.Views.{does}
-use Rattle.page_scopes_tree.specs.machine.Frames.{framed}
-use Rattle.page_scopes_tree.specs.machine.Nests.{scopes_nesting}
-use Rattle.page_scopes_tree.specs.machine.Stacks.{stack_edge}
+use Rattle.page_scopes_tree.specs.machine.Stacks.{framed, scopes_nesting, stack_edge}
 use Rattle.page_scopes_tree.specs.declared.acts.Act.TheVariants.{PageEnd}
 use Rattle.page_scopes_tree.proofs.scope_stacks.ScopeStack.finish.Goals as goal
 

@@ -1,7 +1,7 @@
 use Rattle.std.proofs.Common.{◌≤◌, ◌+◌, ◌++◌, List, ℕ, length, ap, ◌∙◌, arith}
 use Rattle.page_core_base.specs.laws.Views.{cells_in}
 use Rattle.std.specs.Prelude.{take}
-use Rattle.page_scopes_words.proofs.LetterCellLemmas.{letters_put, printable_first, printable_put, put_size}
+use Rattle.page_scopes_words.proofs.RunEndLemmas.{letters_put, printable_first, printable_put, put_size}
 use Rattle.page_scopes_words.specs.machine.Letters.{letters_in}
 use Rattle.page_scopes_words.proofs.letters.Letters.add.Goals as goal
 

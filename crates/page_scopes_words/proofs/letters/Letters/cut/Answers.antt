@@ -1,6 +1,6 @@
 use Rattle.std.proofs.Common.{◌≤◌, List, length, ap, arith}
 use Rattle.page_core_base.specs.declared.cells.Cell.{Cell}
-use Rattle.page_scopes_words.proofs.LetterCellLemmas.{letters_len, printable_cut}
+use Rattle.page_scopes_words.proofs.RunEndLemmas.{letters_len, printable_cut}
 use Rattle.page_scopes_words.proofs.letters.Letters.cut.Goals as goal
 
 pub invariant_of-self : goal.invariant_of-self

@@ -1,6 +1,6 @@
 use Rattle.std.proofs.Common.{◌<◌, ◌∙◌, arith}
 use Rattle.std.proofs.lemmas.Bool.Decides.{nat_tests}
-use Rattle.page_scopes_words.proofs.LetterCellLemmas.{rest_joined, rest_printable}
+use Rattle.page_scopes_words.proofs.RunEndLemmas.{rest_joined, rest_printable}
 use Rattle.page_scopes_words.proofs.letters.Letters.give.Goals as goal
 
 pub give_words-requires-clause-ascii : goal.give_words-requires-clause-ascii

@@ -1,5 +1,5 @@
 use Rattle.std.proofs.Common.{◌≤◌, length, ap, sym, ◌∙◌, arith}
-use Rattle.page_scopes_words.proofs.LetterCellLemmas.{letters_len}
+use Rattle.page_scopes_words.proofs.RunEndLemmas.{letters_len}
 use Rattle.page_scopes_words.proofs.letters.Letters.len.Goals as goal
 
 pub returns-clause-value : goal.returns-clause-value

@@ -2,7 +2,7 @@ use Rattle.std.proofs.Common.{arith, ap, ◌∙◌, []}
 use Rattle.page_core_base.specs.laws.Views.{line_view}
 use Rattle.page_sets_lines.specs.laws.Events.{event_view}
 use Rattle.page_sets_lines.specs.machine.EventOuts.{nth, kept_view}
-use Rattle.page_sets_lines.proofs.NthLemmas.{nth_kept, nth_none, nth_some, nth_start, nth_within}
+use Rattle.page_sets_lines.proofs.ArgumentLaws.{nth_kept, nth_none, nth_some, nth_start, nth_within}
 use Rattle.page_sets.specs.Mdoc.{either_events}
 use Rattle.page_sets.proofs.either.EitherMacroSet.next.Goals as goal
 

@@ -1,6 +1,6 @@
 use Rattle.page_core_base.specs.laws.Views.{line_view}
 use Rattle.page_sets_lines.specs.laws.Events.{event_view}
-use Rattle.page_sets_lines.proofs.SliceLemmas.{first_short}
+use Rattle.page_sets_lines.proofs.ArgumentLaws.{first_short}
 use Rattle.page_sets_lines.proofs.macro_sets.MacroSet.give.Goals as goal
 
 pub give-requires : goal.give-requires
