@@ -76,7 +76,7 @@ fn failed_by(fault: Fault) -> Done
 }
 
 // Writes the line about a fault at a file; else a front of it was written.
-#[tactic(auto, using(crate::proofs::Waits::writes_on, crate::proofs::Waits::ended_before))]
+#[tactic(auto, using(crate::proofs::Turns::writes_on, crate::proofs::Turns::ended_before))]
 fn put_fault<V: Buffered>(err: &mut V, shown: &str, fault: Fault) -> bool
     ensures failed { result ≡ false → HasFailed V.counts V.failures }
     ensures writes { Writes result (V.contents err.old) (V.contents err.new) (fault_line shown.now fault) }
@@ -99,7 +99,7 @@ fn put_fault_at<V: Buffered>(err: &mut V, dir: &str, name: &str, fault: Fault) -
 }
 
 /// Writes a line about what has a name; else a front of it was written.
-#[tactic(auto, using(crate::proofs::Waits::writes_on, crate::proofs::Waits::ended_before))]
+#[tactic(auto, using(crate::proofs::Turns::writes_on, crate::proofs::Turns::ended_before))]
 pub fn put_line_at<V: Buffered>(err: &mut V, name: &str, text: &str) -> bool
     ensures failed { result ≡ false → HasFailed V.counts V.failures }
     ensures writes { Writes result (V.contents err.old) (V.contents err.new) (line_about (shown name.now) text.now) }
@@ -111,7 +111,7 @@ pub fn put_line_at<V: Buffered>(err: &mut V, name: &str, text: &str) -> bool
 }
 
 /// Writes the front of a line about what has a name, up to that name; else a front of it was written.
-#[tactic(auto, using(crate::proofs::Waits::writes_on, crate::proofs::Waits::ended_before))]
+#[tactic(auto, using(crate::proofs::Turns::writes_on, crate::proofs::Turns::ended_before))]
 pub fn put_front<V: Buffered>(err: &mut V, name: &str) -> bool
     ensures failed { result ≡ false → HasFailed V.counts V.failures }
     ensures writes { Writes result (V.contents err.old) (V.contents err.new) (codes "mandoc: " ++ shown name.now) }

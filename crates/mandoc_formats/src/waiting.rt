@@ -134,12 +134,12 @@ impl<W: Write> Target for Waiting<W> {
 impl<W: Write> Buffered for Waiting<W> {
     ghost waits = { λ s. s.bytes.items };
 
-    #[tactic(auto, using(crate::proofs::Waits::uncounted))]
+    #[tactic(auto, using(crate::proofs::Turns::uncounted))]
     fn put_all_out(&mut self) -> bool {
         self.send() && self.out.flush().is_ok()
     }
 
-    #[tactic(auto, using(crate::proofs::Waits::uncounted))]
+    #[tactic(auto, using(crate::proofs::Turns::uncounted))]
     fn put_through(&mut self, texts: &[&[u8]]) -> bool {
         self.send() && put_all(&mut self.out, texts)
     }

@@ -20,7 +20,7 @@ pub(crate) fn report_compressed<V: Buffered>(err: &mut V, dir: &str, given: Resu
 }
 
 // Writes the line about pages that are compressed.
-#[tactic(auto, using(mandoc_formats::proofs::Waits::writes_on, mandoc_formats::proofs::Waits::ended_before))]
+#[tactic(auto, using(mandoc_formats::proofs::Turns::writes_on, mandoc_formats::proofs::Turns::ended_before))]
 fn put_compressed<V: Buffered>(err: &mut V, dir: &str, count: u64) -> bool
     ensures failed { result ≡ false → HasFailed V.counts V.failures }
     ensures writes { Writes result (V.contents err.old) (V.contents err.new) (compressed_line (shown dir.now) count) }

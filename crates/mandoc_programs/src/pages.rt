@@ -56,7 +56,7 @@ impl Tally {
     }
 
     // Of these pages and others.
-    #[tactic(auto, using(mandoc_formats::proofs::Lists::worse))]
+    #[tactic(auto, using(mandoc_formats::proofs::Turns::worse))]
     fn and(self, other: Tally) -> Tally
         ensures { result ≡ both self other }
     {

@@ -66,7 +66,7 @@ fn put_row<W: Target>(out: &mut W, parts: &[&[u8]]) -> bool
 }
 
 // Writes a name and the end of its row.
-#[tactic(auto, using(mandoc_formats::proofs::Waits::writes_on, mandoc_formats::proofs::Waits::ended_before))]
+#[tactic(auto, using(mandoc_formats::proofs::Turns::writes_on, mandoc_formats::proofs::Turns::ended_before))]
 fn put_name_row<W: Target>(out: &mut W, name: &[u8], end: &[u8]) -> bool
     ensures { Writes result (W.contents out.old) (W.contents out.new) (shown_parts (length name.now) name.now ++ end.now) }
 {
@@ -89,7 +89,7 @@ fn put_parts<W: Target>(out: &mut W, name: &[u8]) -> bool
 }
 
 // Writes a text as a name, and then what is no text.
-#[tactic(auto, using(mandoc_formats::proofs::Waits::writes_on, mandoc_formats::proofs::Waits::ended_before))]
+#[tactic(auto, using(mandoc_formats::proofs::Turns::writes_on, mandoc_formats::proofs::Turns::ended_before))]
 fn put_part<W: Target>(out: &mut W, text: &str, other: &[u8]) -> bool
     ensures { Writes result (W.contents out.old) (W.contents out.new) (shown text.now ++ other.now) }
 {

@@ -32,7 +32,7 @@ impl<'a> Model for Tokens<'a> {
 impl<'a> Tokens<'a> {
     /// The tokens of a text; `quoted` says whether it is that of a quoted argument. They have no more bytes than the text.
     #[inline(always)]
-    #[tactic(auto, using(crate::proofs::TokenLemmas::len_within))]
+    #[tactic(auto, using(crate::proofs::Unwinding::len_within))]
     pub fn new(quoted: bool, text: &'a [u8]) -> Tokens<'a>
         requires { length text.now ≤ LINE }
         ensures tokens { result ≡ tokens_of quoted text.now }

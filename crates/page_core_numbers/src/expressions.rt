@@ -45,7 +45,7 @@ fn split_signs(text: &[u8]) -> (usize, &[u8])
 }
 
 // A value that is negated this number of times.
-#[tactic(auto, using(crate::proofs::SignLemmas::negated_next))]
+#[tactic(auto, using(crate::proofs::ExpressionLemmas::negated_next))]
 fn negate(value: i32, times: usize) -> i32
     ensures { result ≡ negated_value times value }
 {

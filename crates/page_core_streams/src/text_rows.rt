@@ -191,7 +191,7 @@ impl<W: Target> RowSink for TextRows<'_, W> {
         Err(Fault::WriteText)
     }
 
-    #[tactic(auto, using(crate::proofs::RowLemmas::blank_bytes))]
+    #[tactic(auto, using(crate::proofs::AsciiLemmas::blank_bytes))]
     fn blank_row(&mut self, _margin: u32, _cells: &[Cell]) -> Result<(), Fault> {
         if self.out.put(b"\n") {
             return Ok(());

@@ -30,7 +30,7 @@ use Rattle.page_engine.specs.declared.layers.Layers.{Layers}
 use Rattle.std.proofs.lemmas.List.{length-map}
 use Rattle.page_roff_lines.specs.Lines.{Line}
 use Rattle.page_core_base.specs.declared.limits.TheConstants.{EXPAND, REREAD}
-use Rattle.page_roff_source.specs.laws.Views.{EachIsWithin}
+use Rattle.page_roff_source.specs.laws.Expansions.{EachIsWithin}
 use Rattle.page_roff_source.proofs.CountLemmas.{lines_bound, lines_expansions, each_bound}
 
 pub laid_items_one : (row : FillEdge) (x : Item) → laid_items row (x ∷ []) ≡ laid_item row x

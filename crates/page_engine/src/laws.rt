@@ -4,7 +4,7 @@ ghost use Rattle.std.specs.Prelude.{◌≡◌, ◌≤◌, ◌+◌, ◌*◌, List
 ghost use Rattle.page_core_base.specs.Rows.{join};
 ghost use Rattle.page_core_base.specs.declared.page_settings.Settings.{Settings};
 ghost use Rattle.page_roff_lines.specs.Lines.{Line};
-ghost use Rattle.page_roff_source.specs.laws.Views.{EachIsWithin};
+ghost use Rattle.page_roff_source.specs.laws.Expansions.{EachIsWithin};
 ghost use Rattle.page_core_base.specs.declared.limits.TheConstants.{EXPAND, REREAD};
 ghost use Rattle.page_engine_lines.specs.Acts.{lines_after};
 ghost use Rattle.page_engine.specs.machine.PageSinks as by_line;

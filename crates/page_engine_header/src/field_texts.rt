@@ -41,7 +41,7 @@ fn add_byte(kept: &mut ArrayVec<u8, 256>, room: usize, byte: u8) -> usize
 }
 
 // Adds what an argument says, as far as there is room for it, up to a character's end; the room that is left.
-#[tactic(auto, using(page_scopes_words::proofs::FrontLemmas::front_fits, crate::proofs::FieldLemmas::front_within))]
+#[tactic(auto, using(page_scopes_words::proofs::RunEndLemmas::front_fits, crate::proofs::PrintingLemmas::front_within))]
 fn add_argument(kept: &mut ArrayVec<u8, 256>, room: usize, argument: Argument<&[u8]>) -> usize
     requires { length kept.old.items + room ≤ 256 }
     ensures items { kept.new.items ≡ kept.old.items ++ said room (argument_view argument.entry) }

@@ -10,10 +10,8 @@ use Rattle.page_core_base.specs.declared.note_kinds.NoteKind.TheVariants.{Traili
 use Rattle.page_roff_effects.specs.States.{Given, says, takes}
 use Rattle.page_roff_syntax.specs.Delimiters.{kept_len}
 use Rattle.page_roff_source.specs.Runs.{RoffEdge, SourceLine, end_notes, given, done}
-use Rattle.page_roff_source.specs.machine.Taking.{before_line, run_line, line_given, line_done}
-use Rattle.page_roff_source.specs.machine.LineByLine.{lines_given, lines_done}
-use Rattle.page_roff_source.proofs.CutLemmas.{given-append, done-append}
-use Rattle.page_roff_source.proofs.LineLemmas.{given-by_line, done-by_line}
+use Rattle.page_roff_source.specs.machine.RoffLines.{before_line, run_line, line_given, line_done, lines_given, lines_done}
+use Rattle.page_roff_source.proofs.CountLemmas.{given-append, done-append, given-by_line, done-by_line}
 use Rattle.page_engine_lines.specs.Bodies.{BodyEdge, chosen, chosen_if, language_of}
 use Rattle.page_engine_lines.specs.laws.Views.{decided, events_after, events_items, has_begun, has_title, end_items as body_end_items, ending_items}
 use Rattle.page_engine_lines.specs.Trees.{Step, reports, events_steps, page_end_steps, tree_items, tree_after}

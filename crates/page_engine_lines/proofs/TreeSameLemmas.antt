@@ -19,9 +19,8 @@ use Rattle.page_roff_effects.specs.Regions.{body_outcome, kind_outcome, line_out
 use Rattle.page_roff_effects.specs.machine.Acting.{effects, setting_of, tested_after, done_by, done_after}
 use Rattle.page_roff_effects.proofs.CountLemmas.{does_keeps, longer_keeps, head_keeps, end_keeps, finish_keeps, loop_keeps, collect_keeps, close_keeps}
 use Rattle.page_roff_source.specs.Runs.{RoffEdge, SourceLine, done}
-use Rattle.page_roff_source.specs.machine.Taking.{before_line, run_line, line_done}
-use Rattle.page_roff_source.specs.machine.LineByLine.{lines_done}
-use Rattle.page_roff_source.proofs.LineLemmas.{done-by_line}
+use Rattle.page_roff_source.specs.machine.RoffLines.{before_line, run_line, line_done, lines_done}
+use Rattle.page_roff_source.proofs.CountLemmas.{done-by_line}
 use Rattle.page_core_base.specs.declared.places.Place.{Place}
 use Rattle.page_sets_lines.specs.declared.events.EventKind.{EventKind}
 use Rattle.page_sets_lines.specs.declared.events.EventKind.TheVariants as kinds

@@ -9,7 +9,7 @@ use Rattle.page_engine_lines.specs.Edges.{LinesEdge, start_of}
 use Rattle.page_engine_lines.proofs.TreeLemmas.{ending_is, end_items_after, lines_after-append, lines_items-append, no_items, none_after, title_after}
 use Rattle.page_roff_lines.specs.Lines.{Line}
 use Rattle.page_roff_source.specs.Runs.{RoffEdge, SourceLine}
-use Rattle.page_roff_source.proofs.LineLemmas.{done-idle}
+use Rattle.page_roff_source.proofs.CountLemmas.{done-idle}
 use Rattle.page_engine_records.specs.machine.NameTexts.{Front, after_line, after_lines, ended, front_record, is_settled, start, has_ended, kept_of, read, read-append, EndedWell, Finished, HasRoom, IsAt, ReadsAll, StartsAt, StoppedBy, Through, front_of}
 use Rattle.page_engine_records.specs.NameTexts.{name_text}
 use Rattle.page_engine_records.specs.PageRecords.{raw, record_of_lines, page_record}

@@ -16,7 +16,7 @@ use Rattle.page_roff_syntax.specs.declared.quotes.Argument.{Argument}
 use Rattle.page_roff_blocks.specs.Parts.{line_parts}
 use Rattle.page_roff_blocks.specs.declared.line_parts.LinePart.TheVariants.{Leaf}
 use Rattle.page_roff_blocks.proofs.LinePartLemmas.{one_leaf, plain_named, plain_nameless}
-use Rattle.page_roff_values.specs.machine.Verbatim.{GivesItself}
+use Rattle.page_roff_values.specs.machine.Rest.{GivesItself}
 use Rattle.page_roff_names.specs.Names.{Definitions, body_of}
 use Rattle.page_roff_definitions.specs.Definitions.{closings_notes, packed}
 use Rattle.page_roff_definitions.specs.machine.Buffers.{MacroCall, Packs}

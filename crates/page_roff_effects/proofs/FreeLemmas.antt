@@ -15,8 +15,8 @@ use Rattle.page_roff_heads.specs.Heads.{block_end_of, end_place}
 use Rattle.page_roff_heads.proofs.Ahead.{without_ends}
 use Rattle.page_roff_parts.specs.machine.Verbatim.{IsFree, may_call}
 use Rattle.page_roff_parts.proofs.VerbatimLemmas.{verbatim_free}
-use Rattle.page_roff_values.specs.machine.Verbatim.{GivesItself}
-use Rattle.page_roff_values.proofs.CopiedLemmas.{gives_itself}
+use Rattle.page_roff_values.specs.machine.Rest.{GivesItself}
+use Rattle.page_roff_values.proofs.LineLemmas.{gives_itself, plain_expanded}
 use Rattle.page_core_base.specs.laws.Views.{IsFreeLine, is_backslash, is_key}
 use Rattle.page_roff_effects.specs.machine.Acting.{IsFreeFrom, Acting, measured, plain_form, line_laid}
 use Rattle.std.proofs.Math.Seq.{take-length}
@@ -26,7 +26,6 @@ use Rattle.page_core_base.specs.declared.lines_taken.Form.TheVariants as forms
 use Rattle.page_roff_syntax.specs.laws.Views.{is_plain, begins_control}
 use Rattle.page_roff_syntax.specs.declared.line_forms.LineForm.TheVariants.{Text, BlankLine, Control}
 use Rattle.page_roff_syntax.proofs.FormLemmas.{read_first, read_all, front_of}
-use Rattle.page_roff_values.proofs.LineLemmas.{plain_expanded}
 use Rattle.page_roff_values.specs.Values.{nothing, adds, start}
 use Rattle.page_roff_effects.specs.Lines.{leaf_outcome}
 use Rattle.page_roff_effects.specs.States.{Memory, TextSetting, counted, gives_line, surroundings}

@@ -5,7 +5,7 @@ ghost use Rattle.page_core_base.specs.laws.Views.{line_view, Came};
 ghost use Rattle.page_core_base.specs.declared.limits.TheConstants.{ARGS, LINE};
 ghost use Rattle.page_roff_heads.specs.laws.Views.{condition_view, test_view, FitsTest};
 ghost use Rattle.page_roff_values.specs.Values.{arguments_in};
-ghost use Rattle.page_roff_values.specs.machine.Views.{surroundings_of};
+ghost use Rattle.page_roff_values.specs.machine.Rest.{surroundings_of};
 ghost use Rattle.page_roff_values.specs.Values as laying;
 ghost use Rattle.page_roff_effects.specs.machine.Acting as acting;
 ghost use Rattle.page_roff_effects.specs.laws.Views.{MemoryFits};

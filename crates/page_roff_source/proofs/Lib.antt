@@ -1,17 +1,4 @@
-pub mod ArgumentTexts
-pub mod LinePartTexts
-pub mod BodyTexts
-pub mod Cuts
-pub mod DefinitionTexts
-pub mod EffectTexts
-pub mod HeadCuts
-pub mod LineCuts
 pub mod CountLemmas
-pub mod CutLemmas
-pub mod LineLemmas
-pub mod NoteLatchLemmas
 pub mod RoffLineLemmas
-pub mod RoomLemmas
-pub mod TextLemmas
 pub mod RunDepthLemmas
 pub mod RunLemmas

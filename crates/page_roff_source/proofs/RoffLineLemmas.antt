@@ -1,39 +1,60 @@
--- The machine that runs a page's lines is at the page's edge: helpers of proofs.
-use Rattle.std.proofs.Common.{◌≡◌, ℕ, ◌+◌, ◌*◌, ◌≤◌, ◌<◌, ◌^◌, Bool, true, false, List, [], ◌∷◌, length, Option, Some, None, IfSome, is_some, option_map, refl, sym, ap, subst, ◌∙◌, arith}
-use Rattle.page_core_base.specs.Texts.{IsLine, TakenLine}
-use Rattle.page_core_base.specs.declared.limits.TheConstants.{LINE, REREAD}
+-- How many skipped blocks a line begins: helpers of proofs.
+use Rattle.std.proofs.Common.{ℕ, ◌+◌, ◌*◌, ◌≤◌, Bool, true, false, List, length, Option, Some, None, arith, ◌≡◌, ◌<◌, ◌^◌, [], ◌∷◌, IfSome, is_some, option_map, refl, sym, ap, subst, ◌∙◌}
+use Rattle.page_roff_blocks.specs.Parts.{line_parts}
+use Rattle.page_roff_syntax.specs.Regions.{is_ending, Opened}
+use Rattle.page_roff_blocks.specs.Forest.{Levels, SourcePlace, outside, first_place}
+use Rattle.page_roff_blocks.specs.laws.Views.{at_line, PlaceFits}
+use Rattle.page_roff_blocks.specs.machine.Steps.{Meaning, At, begin_line, step_inside, step_from, step, step_lines}
+use Rattle.page_roff_blocks.proofs.LinePartLemmas.{line_parts_room, step_room}
+use Rattle.page_roff_values.specs.Values.{units_of}
+use Rattle.page_roff_blocks.specs.machine.Languages.{page, meaning_at, run_page, language, Budget, Budgeted}
+use Rattle.page_core_base.specs.declared.limits.TheConstants.{CALLS, LINE, REREAD}
+use Rattle.page_roff_effects.specs.machine.Acting.{effects, ActingSetting}
+use Rattle.page_roff_source.specs.Runs.{RoffEdge, SourceLine, first_edge, counts_of, end_notes}
+use Rattle.page_roff_source.specs.machine.RoffLines.{before_line, run_line, line_done, LinesState, TakesSource, line_given, run_begun, edge_of, state_of, given_by, run_if, IsIdleAs, IsCounted, IsAtEdge, RunsOn}
+use Rattle.page_core_base.specs.Texts.{TakenLine}
 use Rattle.page_core_base.specs.laws.Views.{line_view}
 use Rattle.page_core_base.specs.declared.lines_taken.Taken.{Taken}
 use Rattle.page_core_base.specs.Messages.{Message}
 use Rattle.page_core_base.specs.declared.page_settings.Output.{Output}
-use Rattle.page_roff_blocks.specs.laws.Views.{PlaceFits, at_line}
-use Rattle.page_roff_blocks.specs.Forest.{SourcePlace, outside, first_place}
-use Rattle.page_roff_blocks.specs.machine.Steps.{At}
-use Rattle.page_roff_blocks.specs.machine.Languages.{run_page, Budget, Budgeted}
 use Rattle.page_roff_blocks.specs.machine.Machine.{next}
 use Rattle.page_roff_stack.specs.machine.Stacks.{is_nothing}
 use Rattle.page_roff_stack.specs.machine.Stacks as stack
 use Rattle.page_roff_effects.specs.laws.Views.{MemoryFits, State}
 use Rattle.page_roff_effects.specs.Regions.{finish_outcome}
-use Rattle.page_roff_effects.specs.machine.Acting.{ActingSetting}
 use Rattle.page_roff_effects.specs.States.{Given, Memory, takes, first_memory, numbered}
 use Rattle.page_roff_machine.specs.Giving.{next_line, after_line}
 use Rattle.page_roff_machine.specs.machine.Machines.{Machine, output_of, language_of, outcome_of, to_come, end_of, place_of, stands, stands_after, begun_at, Begins, Takes, BeginsOrTakes, Advances, taken_if, IsIdleUnless, IsNew, Resumes}
 use Rattle.page_roff_machine.specs.machine.Moving.{IsPassed}
 use Rattle.page_roff_machine.specs.machine.Machines as machine
 use Rattle.page_roff_machine.proofs.MachineLemmas.{idle_stands, new_idle, resumed_idle}
-use Rattle.page_roff_source.specs.machine.Texts.{HoldsTexts, AreGiven}
-use Rattle.page_roff_source.proofs.EffectTexts.{first_holds, finish_holds}
 use Rattle.page_roff_source.specs.declared.counts.Counts.{Counts}
 use Rattle.page_roff_source.specs.laws.Views.{RoffFits, Part, IsPart, edge_at, part_of, given_of, line_taken, left_if}
-use Rattle.page_roff_source.specs.Runs.{RoffEdge, SourceLine, first_edge, counts_of, end_notes}
-use Rattle.page_roff_source.specs.machine.Taking.{LinesState, before_line, TakesSource, line_done, line_given, run_line, run_begun}
 use Rattle.page_roff_source.specs.declared.roff_lines.Remaining.{Remaining}
 use Rattle.page_roff_source.specs.declared.roff_lines.Remaining.TheVariants as remaining
-use Rattle.page_roff_source.specs.machine.RoffLines.{edge_of, state_of, given_by, run_if, IsIdleAs, IsCounted, IsAtEdge, RunsOn}
 use Rattle.page_roff_source.proofs.CountLemmas.{taken_bound}
-use Rattle.page_roff_source.proofs.RoomLemmas.{done_room}
-use Rattle.page_roff_source.proofs.TextLemmas.{line_texts, runs_as, taken_is, taken_line}
+
+IsRoomy : {S : Type 0} → Levels → List ℕ → At S → Type 0
+IsRoomy l line a = a.place.levels.skipped ≤ l.skipped + (2 * length line + 2)
+
+module _ {S : Type 0} (m : Meaning S) where
+  inside_room : (is_end : Bool) (o : Opened) (line : List ℕ) (l : Levels) (s : S) → IsRoomy l line (step_inside m is_end o line l s)
+  unfolding step_inside IsRoomy
+  inside_room true o line l s = omega arith
+  inside_room false o line l s = omega arith
+
+  from_room : (o : Option Opened) (line : List ℕ) (l : Levels) (s : S) → IsRoomy l line (step_from m o line l s)
+  unfolding step_from IsRoomy at_line
+  from_room None line l s =
+      omega (arith, step_room m (line_parts line) (at_line l) (begin_line m line l s), line_parts_room line)
+  from_room (Some o) line l s = inside_room (is_ending o.ending line) o line l s
+
+pub done_room : (e : RoffEdge) (line : SourceLine) → (line_done e line).place.levels.skipped ≤ e.place.levels.skipped + (2 * length line.text + 2)
+unfolding run_line before_line run_page step_lines step IsRoomy
+done_room e line =
+    let a = before_line e line in from_room (meaning_at (language (effects (units_of e.output))) CALLS page) a.place.region line.text a.place.levels a.state
+
+-- ---- The machine that runs a page's lines is at the page's edge: helpers of proofs.
 
 -- an edge by what leaves the page there
 abbrev edge_with : Output → At (Budgeted State) → ℕ → Option (List Given) → RoffEdge
@@ -106,22 +127,14 @@ pub resumed_at : (output : Output) (p : Part) (m : Machine) → Resumes output p
 resumed_at output p m h = resumed_edge output p m h (idle_stands m (resumed_idle output p.place p.memory p.taken m h))
 
 -- the machine is at this edge
-at_edge : (m : Machine) (source : ℕ) (left : Remaining) (e : RoffEdge) → edge_of m source left ≡ e → IsIdleAs left m → IsCounted e → HoldsTexts e.memory → AreGiven (given_of e)
-    → IsAtEdge m source left
-at_edge m source left e same idle counted texts given =
-    record {
-      idle = idle;
-      counted = subst IsCounted (sym same) counted;
-      texts = subst (λ (x : RoffEdge). HoldsTexts x.memory) (sym same) texts;
-      given = subst (λ (x : RoffEdge). AreGiven (given_of x)) (sym same) given;
-    }
+at_edge : (m : Machine) (source : ℕ) (left : Remaining) (e : RoffEdge) → edge_of m source left ≡ e → IsIdleAs left m → IsCounted e → IsAtEdge m source left
+at_edge m source left e same idle counted = record { idle = idle; counted = subst IsCounted (sym same) counted }
 
 pub resumed_invariant : (output : Output) (p : Part) (m : Machine) → IsPart p → Resumes output p.place p.memory p.taken m
     → IsAtEdge m p.source remaining.Nothing
-unfolding AreGiven
 resumed_invariant output p m k h =
     at_edge m p.source remaining.Nothing (edge_at output p) (resumed_at output p m h) (resumed_idle output p.place p.memory p.taken m h)
-    (record { source = k.source; taken = k.taken; skipped = k.skipped }) k.texts tt
+    (record { source = k.source; taken = k.taken; skipped = k.skipped })
 
 -- the part that is held where all was given
 pub part_at : (m : Machine) (source : ℕ) (left : Remaining) → IsAtEdge m source left → (edge_of m source left).to_come ≡ None
@@ -140,7 +153,6 @@ is_part_at m source left p none passed =
       source = c.source;
       taken = subst (λ (x : Part). x.taken ≤ (REREAD + 1) * source) e c.taken;
       skipped = subst (λ (x : Part). x.place.levels.skipped ≤ (2 * LINE + 2) * source) e c.skipped;
-      texts = subst (λ (x : Part). HoldsTexts x.memory) e p.texts;
       passed = passed;
     }
 
@@ -152,47 +164,48 @@ unfolding before_line
 before_at m source line e = ap (λ (a : At (Budgeted State)). begun_from a line.number) e
 
 pub begun : (old new : Machine) (source : ℕ) (line : SourceLine) → machine.is_idle old ≡ true → Begins line.text line.number old new
-    → HoldsTexts (edge_of old source remaining.Nothing).memory → IsLine line.text → edge_of new (source + 1) remaining.Run ≡ run_begun (edge_of old source remaining.Nothing) line
+    → edge_of new (source + 1) remaining.Run ≡ run_begun (edge_of old source remaining.Nothing) line
 unfolding run_line
-begun old new source line idle b h l =
+begun old new source line idle b =
     let e = before_at old source line (idle_stands old idle) in
-    let outcome = b.outcome ∙ sym (ap (run_page (language_of old) (line.text ∷ [])) e) ∙ runs_as (edge_of old source remaining.Nothing) line in
+    let outcome = b.outcome ∙ sym (ap (run_page (language_of old) (line.text ∷ [])) e) in
     ap (λ (o : Output). begun_with o (outcome_of new) (source + 1)) b.output
     ∙ ap (λ (a : At (Budgeted State)). begun_with (output_of old) a (source + 1)) outcome
 
 -- a line that was taken at once is all that the line gives
 gives_taken : (old new : Machine) (source : ℕ) (taken : TakenLine) (line : SourceLine) → machine.is_idle old ≡ true
-    → Takes taken line.text line.number old new → HoldsTexts (edge_of old source remaining.Nothing).memory → IsLine line.text
+    → Takes taken line.text line.number old new
     → stands_after (takes taken ∷ []) new ≡ run_line (edge_of old source remaining.Nothing) line
-gives_taken old new source taken line idle t h l =
+unfolding run_line
+gives_taken old new source taken line idle t =
     let e = before_at old source line (idle_stands old idle) in
-    t.outcome ∙ sym (ap (run_page (language_of old) (line.text ∷ [])) e) ∙ runs_as (edge_of old source remaining.Nothing) line
+    t.outcome ∙ sym (ap (run_page (language_of old) (line.text ∷ [])) e)
 
 gives_alone : (old new : Machine) (source : ℕ) (taken : TakenLine) (line : SourceLine) → machine.is_idle old ≡ true
-    → Takes taken line.text line.number old new → HoldsTexts (edge_of old source remaining.Nothing).memory → IsLine line.text
+    → Takes taken line.text line.number old new
     → line_given (edge_of old source remaining.Nothing) line ≡ takes taken ∷ []
-gives_alone old new source taken line idle t h l =
-    sym (ap (λ (a : At (Budgeted State)). a.state.rest.out) (gives_taken old new source taken line idle t h l))
+gives_alone old new source taken line idle t =
+    sym (ap (λ (a : At (Budgeted State)). a.state.rest.out) (gives_taken old new source taken line idle t))
 
 -- it is kept, to be given
 kept_line : (old new : Machine) (source : ℕ) (taken : TakenLine) (line : SourceLine) → machine.is_idle old ≡ true
-    → Takes taken line.text line.number old new → new.actions.line ≡ taken → HoldsTexts (edge_of old source remaining.Nothing).memory → IsLine line.text
+    → Takes taken line.text line.number old new → new.actions.line ≡ taken
     → edge_of new (source + 1) remaining.Line ≡ run_begun (edge_of old source remaining.Nothing) line
-kept_line old new source taken line idle t k h l =
+kept_line old new source taken line idle t k =
     let given = takes taken ∷ [] in
     ap (λ (x : TakenLine). edge_with (output_of new) (outcome_of new) (source + 1) (Some (takes x ∷ []))) k
     ∙ ap (λ (a : At (Budgeted State)). edge_with (output_of new) a (source + 1) (Some given)) (idle_stands new t.idle)
     ∙ ap (λ (o : Output). begun_with o (stands_after given new) (source + 1)) t.output
-    ∙ ap (λ (a : At (Budgeted State)). begun_with (output_of old) a (source + 1)) (gives_taken old new source taken line idle t h l)
+    ∙ ap (λ (a : At (Budgeted State)). begun_with (output_of old) a (source + 1)) (gives_taken old new source taken line idle t)
 
 -- it is given, and the line is done
 line_is_done : (old new : Machine) (source : ℕ) (taken : TakenLine) (line : SourceLine) → machine.is_idle old ≡ true
-    → Takes taken line.text line.number old new → HoldsTexts (edge_of old source remaining.Nothing).memory → IsLine line.text
+    → Takes taken line.text line.number old new
     → edge_of new (source + 1) remaining.Nothing ≡ line_done (edge_of old source remaining.Nothing) line
-line_is_done old new source taken line idle t h l =
+line_is_done old new source taken line idle t =
     ap (λ (a : At (Budgeted State)). edge_with (output_of new) a (source + 1) None) (idle_stands new t.idle)
     ∙ ap (λ (o : Output). edge_with o (stands_after (takes taken ∷ []) new) (source + 1) None) t.output
-    ∙ ap (λ (a : At (Budgeted State)). edge_with (output_of old) a (source + 1) None) (gives_taken old new source taken line idle t h l)
+    ∙ ap (λ (a : At (Budgeted State)). edge_with (output_of old) a (source + 1) None) (gives_taken old new source taken line idle t)
 
 pub begun_counted : (e : RoffEdge) (line : SourceLine) → IsCounted e → e.source < 2 ^ 31 → length line.text ≤ LINE → IsCounted (run_begun e line)
 begun_counted e line c few short =
@@ -242,8 +255,7 @@ idle_unless true m h = tt
 idle_unless false m h = h
 
 pub new_invariant : (output : Output) (m : Machine) → IsNew output m → IsAtEdge m 0 remaining.Nothing
-unfolding AreGiven
-new_invariant output m n = at_edge m 0 remaining.Nothing (first_edge output) (new_at output m n) (new_idle output m n) (new_counted output) first_holds tt
+new_invariant output m n = at_edge m 0 remaining.Nothing (first_edge output) (new_at output m n) (new_idle output m n) (new_counted output)
 
 pub begin_room : (m : Machine) (source : ℕ) (left : Remaining) → IsAtEdge m source left → (edge_of m source left).to_come ≡ None
     → (m.budget.taken ≤ 2 ^ 62) × (m.stack.top.cursor.levels.skipped < 2 ^ 62)
@@ -260,26 +272,25 @@ at_nothing m source left p none = subst (IsAtEdge m source) (nothing_left m sour
 
 -- a line begins that is run
 pub begin_edge : (old new : Machine) (source : ℕ) (left : Remaining) (line : List ℕ) (number : ℕ) → IsAtEdge old source left
-    → (edge_of old source left).to_come ≡ None → Begins line number old new → IsLine line
+    → (edge_of old source left).to_come ≡ None → Begins line number old new
     → edge_of new (source + 1) remaining.Run ≡ run_begun (edge_of old source left) (record { text = line; number = number; notes = [] })
-begin_edge old new source left line number p none b l =
+begin_edge old new source left line number p none b =
     let s : SourceLine = record { text = line; number = number; notes = [] } in
     let q = at_nothing old source left p none in
     subst (λ (r : Remaining). edge_of new (source + 1) remaining.Run ≡ run_begun (edge_of old source r) s) (sym (nothing_left old source left none))
-    (begun old new source s q.idle b q.texts l)
+    (begun old new source s q.idle b)
 
 -- the invariant at an edge after a line
-begun_invariant : (e : RoffEdge) (new : Machine) (source : ℕ) (left : Remaining) (line : SourceLine) → IsCounted e → HoldsTexts e.memory → e.source < 2 ^ 31
-    → IsLine line.text → edge_of new (source + 1) left ≡ run_begun e line → IsIdleAs left new → IsAtEdge new (source + 1) left
-begun_invariant e new source left line c h few t same idle =
-    let k = line_texts e line h t in
-    at_edge new (source + 1) left (run_begun e line) same idle (begun_counted e line c few t.bounded) k.memory k.out
+begun_invariant : (e : RoffEdge) (new : Machine) (source : ℕ) (left : Remaining) (line : SourceLine) → IsCounted e → e.source < 2 ^ 31
+    → length line.text ≤ LINE → edge_of new (source + 1) left ≡ run_begun e line → IsIdleAs left new → IsAtEdge new (source + 1) left
+begun_invariant e new source left line c few t same idle =
+    at_edge new (source + 1) left (run_begun e line) same idle (begun_counted e line c few t)
 
 pub begin_invariant : (old new : Machine) (source : ℕ) (left : Remaining) (line : List ℕ) (number : ℕ) → IsAtEdge old source left
-    → (edge_of old source left).to_come ≡ None → Begins line number old new → source < 2 ^ 31 → IsLine line → IsAtEdge new (source + 1) remaining.Run
+    → (edge_of old source left).to_come ≡ None → Begins line number old new → source < 2 ^ 31 → length line ≤ LINE → IsAtEdge new (source + 1) remaining.Run
 begin_invariant old new source left line number p none b few t =
-    begun_invariant (edge_of old source left) new source remaining.Run (record { text = line; number = number; notes = [] }) p.counted p.texts few t
-    (begin_edge old new source left line number p none b t) tt
+    begun_invariant (edge_of old source left) new source remaining.Run (record { text = line; number = number; notes = [] }) p.counted few t
+    (begin_edge old new source left line number p none b) tt
 
 -- one begins that is taken at once, and kept
 abbrev with_line : TakenLine → Machine → Machine
@@ -292,20 +303,20 @@ kept_takes old new kept taken line number t e =
     subst (Takes taken line number old) (sym e) same
 
 pub keep_edge : (old new kept : Machine) (source : ℕ) (left : Remaining) (taken : TakenLine) (line : List ℕ) (number : ℕ) → IsAtEdge old source left
-    → (edge_of old source left).to_come ≡ None → Takes taken line number old new → kept ≡ with_line taken new → IsLine line
+    → (edge_of old source left).to_come ≡ None → Takes taken line number old new → kept ≡ with_line taken new
     → edge_of kept (source + 1) remaining.Line ≡ run_begun (edge_of old source left) (record { text = line; number = number; notes = [] })
-keep_edge old new kept source left taken line number p none t e l =
+keep_edge old new kept source left taken line number p none t e =
     let s : SourceLine = record { text = line; number = number; notes = [] } in
     let q = at_nothing old source left p none in
     subst (λ (r : Remaining). edge_of kept (source + 1) remaining.Line ≡ run_begun (edge_of old source r) s) (sym (nothing_left old source left none))
-    (kept_line old kept source taken s q.idle (kept_takes old new kept taken line number t e) (ap (λ (m : Machine). m.actions.line) e) q.texts l)
+    (kept_line old kept source taken s q.idle (kept_takes old new kept taken line number t e) (ap (λ (m : Machine). m.actions.line) e))
 
 pub keep_invariant : (old new kept : Machine) (source : ℕ) (left : Remaining) (taken : TakenLine) (line : List ℕ) (number : ℕ) → IsAtEdge old source left
-    → (edge_of old source left).to_come ≡ None → Takes taken line number old new → kept ≡ with_line taken new → source < 2 ^ 31 → IsLine line
+    → (edge_of old source left).to_come ≡ None → Takes taken line number old new → kept ≡ with_line taken new → source < 2 ^ 31 → length line ≤ LINE
     → IsAtEdge kept (source + 1) remaining.Line
 keep_invariant old new kept source left taken line number p none t e few l =
-    begun_invariant (edge_of old source left) kept source remaining.Line (record { text = line; number = number; notes = [] }) p.counted p.texts few l
-    (keep_edge old new kept source left taken line number p none t e l) (kept_takes old new kept taken line number t e).idle
+    begun_invariant (edge_of old source left) kept source remaining.Line (record { text = line; number = number; notes = [] }) p.counted few l
+    (keep_edge old new kept source left taken line number p none t e) (kept_takes old new kept taken line number t e).idle
 
 -- one begins that is taken at once, and lent, if there is one
 pub none_begins : (old new : Machine) (result : Option Taken) (line : List ℕ) (number : ℕ) → is_some result ≡ false
@@ -319,49 +330,40 @@ none_takes None line old new e b = b
 none_takes (Some taken) line old new e b = absurd (cc)
 
 pub lend_takes : (old new : Machine) (source : ℕ) (left : Remaining) (result : Option Taken) (line : List ℕ) (number : ℕ) → IsAtEdge old source left
-    → (edge_of old source left).to_come ≡ None → is_some result ≡ true → BeginsOrTakes result line number old new → IsLine line
+    → (edge_of old source left).to_come ≡ None → is_some result ≡ true → BeginsOrTakes result line number old new
     → TakesSource (option_map line_view result) (record { text = line; number = number; notes = [] }) (edge_of old source left)
     (edge_of new (source + 1) left)
-lend_takes old new source left None line number p none e t l = absurd (cc)
-lend_takes old new source left (Some taken) line number p none e t l =
+lend_takes old new source left None line number p none e t = absurd (cc)
+lend_takes old new source left (Some taken) line number p none e t =
     let s : SourceLine = record { text = line; number = number; notes = [] } in
     let q = at_nothing old source left p none in
     let view = line_view taken in
     let left_so = sym (nothing_left old source left none) in
     subst (λ (r : Remaining). TakesSource (Some view) s (edge_of old source r) (edge_of new (source + 1) r)) left_so
-    (gives_alone old new source view s q.idle t q.texts l, line_is_done old new source view s q.idle t q.texts l)
+    (gives_alone old new source view s q.idle t, line_is_done old new source view s q.idle t)
 
-pub lend_text : (old new : Machine) (source : ℕ) (left : Remaining) (result : Option Taken) (line : List ℕ) (number : ℕ) → IsAtEdge old source left
-    → (edge_of old source left).to_come ≡ None → is_some result ≡ true → BeginsOrTakes result line number old new → IsLine line
-    → IfSome result (λ taken. IsLine taken.text.now)
-lend_text old new source left None line number p none e t l = absurd (cc)
-lend_text old new source left (Some taken) line number p none e t l =
-    let s : SourceLine = record { text = line; number = number; notes = [] } in
-    let alone = (lend_takes old new source left (Some taken) line number p none e t l).0 in
-    let given = line_texts (edge_of old source left) s p.texts l in
-    taken_line true (line_view taken) (takes (line_view taken) ∷ []) (subst AreGiven alone given.out) refl refl
+pub lend_text : (old new : Machine) (result : Option Taken) (line : List ℕ) (number : ℕ) → is_some result ≡ true
+    → BeginsOrTakes result line number old new → IfSome result (λ taken. length taken.text.now ≤ LINE)
+lend_text old new None line number e t = absurd (cc)
+lend_text old new (Some taken) line number e t = t.short
 
 pub lend_invariant : (old new : Machine) (source : ℕ) (left : Remaining) (result : Option Taken) (line : List ℕ) (number : ℕ) → IsAtEdge old source left
-    → (edge_of old source left).to_come ≡ None → is_some result ≡ true → BeginsOrTakes result line number old new → source < 2 ^ 31 → IsLine line
+    → (edge_of old source left).to_come ≡ None → is_some result ≡ true → BeginsOrTakes result line number old new → source < 2 ^ 31 → length line ≤ LINE
     → IsAtEdge new (source + 1) left
-unfolding AreGiven
 lend_invariant old new source left None line number p none e t few l = absurd (cc)
 lend_invariant old new source left (Some taken) line number p none e t few l =
     let s : SourceLine = record { text = line; number = number; notes = [] } in
     let before = edge_of old source left in
-    let c = begun_counted before s p.counted few l.bounded in
-    at_edge new (source + 1) left (line_done before s) (lend_takes old new source left (Some taken) line number p none e t l).1
+    let c = begun_counted before s p.counted few l in
+    at_edge new (source + 1) left (line_done before s) (lend_takes old new source left (Some taken) line number p none e t).1
     (subst (λ (r : Remaining). IsIdleAs r new) (sym (nothing_left old source left none)) t.idle)
-    (record { source = c.source; taken = c.taken; skipped = c.skipped }) (line_texts before s p.texts l).memory tt
+    (record { source = c.source; taken = c.taken; skipped = c.skipped })
 
 -- after the line that was taken at once
 pub line_invariant : (m : Machine) (source : ℕ) (left : Remaining) → IsAtEdge m source left → left ≡ remaining.Line → IsAtEdge m source remaining.End
-unfolding AreGiven
 line_invariant m source remaining.Line p e = record {
   idle = p.idle;
   counted = record { source = p.counted.source; taken = p.counted.taken; skipped = p.counted.skipped };
-  texts = p.texts;
-  given = tt;
 }
 line_invariant m source _ p e = absurd (cc)
 
@@ -372,26 +374,22 @@ line_runs_on left m source remaining.Line old s p e v =
     rw (← v) (record {
       came = λ plan more h. h;
       line = refl;
-      text = taken_line true m.actions.line (takes m.actions.line ∷ []) p.given refl;
       edge = refl;
     })
 line_runs_on left m source _ old s p e v = absurd (cc)
 
 -- after its end was reported
 pub told_invariant : (m : Machine) (source : ℕ) (left : Remaining) → IsAtEdge m source left → left ≡ remaining.End → IsAtEdge m source remaining.Nothing
-unfolding AreGiven
 told_invariant m source remaining.End p e = record {
   idle = p.idle;
   counted = record { source = p.counted.source; taken = p.counted.taken; skipped = p.counted.skipped };
-  texts = p.texts;
-  given = tt;
 }
 told_invariant m source _ p e = absurd (cc)
 
 pub told_runs_on : {P S : Type 0} (left : P → S → List Message → Type 0) (m : Machine) (source : ℕ) (r : Remaining) (old : LinesState) (s : S)
     → r ≡ remaining.End → state_of m source r ≡ old → RunsOn left old s false (state_of m source remaining.Nothing) s
 told_runs_on left m source remaining.End old s e v =
-    rw (← v) (record { came = λ plan more h. h; line = refl; text = λ h. absurd (cc); edge = refl })
+    rw (← v) (record { came = λ plan more h. h; line = refl; edge = refl })
 told_runs_on left m source _ old s e v = absurd (cc)
 
 -- after the next line, or at the end
@@ -399,7 +397,7 @@ advance_done : {P S : Type 0} (left : P → S → List Message → Type 0) (old 
     → IsAtEdge old source remaining.Run → Advances left old s result new t → IsAtEdge new source (run_if result)
 advance_done left old new source s t result p a =
     at_edge new source (run_if result) (line_taken (edge_of old source remaining.Run)) (advanced left old new source s t result a) (idle_unless result new a.idle)
-    (record { source = p.counted.source; taken = p.counted.taken; skipped = p.counted.skipped }) p.texts (taken_is (edge_of old source remaining.Run) p.given)
+    (record { source = p.counted.source; taken = p.counted.taken; skipped = p.counted.skipped })
 
 -- it runs on where the machine has something to run
 pub advance_at : {P S : Type 0} (left : P → S → List Message → Type 0) (old new : Machine) (source : ℕ) (r : Remaining) (s t : S) (result : Bool)
@@ -414,7 +412,6 @@ runs_on left old new source remaining.Run x s t result p e v a =
     rw (← v) (record {
       came = a.came;
       line = a.line;
-      text = taken_line result new.actions.line (to_come old) p.given a.line;
       edge = advanced left old new source s t result a;
     })
 runs_on left old new source _ x s t result p e v a = absurd (cc)
@@ -456,15 +453,10 @@ ended_counted old new source i j s b c =
 
 pub end_invariant : (old new : Machine) (source : ℕ) (left : Remaining) → IsAtEdge old source left → (edge_of old source left).to_come ≡ None
     → new.stack ≡ old.stack → new.budget ≡ old.budget → new.actions.memory ≡ machine.end_memory old → IsAtEdge new source left
-unfolding AreGiven
 end_invariant old new source remaining.Nothing p none s b m =
     let i = ap (λ (x : stack.Stack). is_nothing (stack.next_of x)) s ∙ p.idle in
-    let held : HoldsTexts old.actions.memory = subst (λ (a : At (Budgeted State)). HoldsTexts a.state.rest.memory) (idle_stands old p.idle) p.texts in
-    let left = finish_holds old.stack.top.region old.stack.top.cursor.levels.in_loop false old.actions.memory held in
     record {
       idle = i;
       counted = ended_counted old new source p.idle i s b p.counted;
-      texts = subst (λ (a : At (Budgeted State)). HoldsTexts a.state.rest.memory) (sym (idle_stands new i)) (subst HoldsTexts (sym m) left);
-      given = tt;
     }
 end_invariant old new source _ p none s b m = absurd (cc)

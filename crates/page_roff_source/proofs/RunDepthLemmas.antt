@@ -1,5 +1,5 @@
 -- What macros and loops do by `Runs` is what they do by the machine's `Languages` and `Budgets`: helpers of proofs.
-use Rattle.std.proofs.Common.{◌≡◌, ℕ, zero, suc, Bool, true, false, not, ◌&&◌, nat_lt, if◌then◌else◌, List, [], ◌∷◌, Option, Some, None, refl, ap, ◌∙◌, arith}
+use Rattle.std.proofs.Common.{◌≡◌, ℕ, zero, suc, Bool, true, false, not, ◌&&◌, nat_lt, if◌then◌else◌, List, [], ◌∷◌, Option, Some, None, refl, ap, ◌∙◌, arith, ◌++◌, Result, Ok, Err, MatchResult}
 use Rattle.std.proofs.lemmas.Bool.Decides.{nat_tests}
 use Rattle.page_core_base.specs.Limits.{CALLS}
 use Rattle.page_roff_heads.specs.Conditions.{condition_of}
@@ -17,9 +17,16 @@ use Rattle.page_roff_effects.specs.Regions.{close_outcome, repeats_text, finish_
 use Rattle.page_roff_effects.specs.States as states
 use Rattle.page_roff_effects.specs.laws.Views as states_laws
 use Rattle.page_roff_source.specs.Runs.{SourceLine, State, after, spend, reread, page_line, Around, At, gather_some, test, run_product, runs_at}
-use Rattle.page_roff_source.specs.machine.Given.{head_of}
+use Rattle.page_roff_source.specs.machine.RoffLines.{head_of}
 use Rattle.page_roff_source.specs.Runs as runs
 use Rattle.page_roff_source.proofs.RunLemmas.{Old, new, named, at, meets_new, Alike, lines_law}
+use Rattle.std.specs.Borrow.{GName}
+use Rattle.page_core_base.specs.Messages.{Message}
+use Rattle.page_core_base.specs.machine.Plans.{Planned, Left, TookNotes, BrokeNotes}
+use Rattle.page_core_base.specs.laws.Views.{IsSink}
+use Rattle.page_core_base.specs.declared.faults.Fault.{Fault}
+use Rattle.page_core_base.proofs.LatchLemmas as latches
+use Rattle.page_roff_source.specs.laws.Views.{Reports}
 
 module _ (units : List ℕ → ℕ) where
   abbrev e : Effects states_laws.State
@@ -214,3 +221,23 @@ module _ (units : List ℕ → ℕ) where
       → runs.run_page units lines (at p) ≡ at (langs.run_page_lines lang (λ x. x.text) head_of lines p)
   unfolding runs.run_page langs.run_page_lines
   page_law lines p = lines_law (λ x. x.text) page_line head_of on_page (langs.meaning_at lang CALLS page) page_alike lines p
+
+-- ---- A whole call over a latch of messages: helpers of proofs.
+
+reported : {N A : Type 0} {gave within : N → List Message → N → Type 0} {failed : N → ℕ} {s t : N} {notes : List Message} (r : Result A Fault)
+    → MatchResult r (λ _. TookNotes gave failed s notes t) (λ fault. BrokeNotes within failed s fault notes t) → Reports gave within failed r s notes t
+reported (Ok x) h = record { gives = h.0; fault = h.1 }
+reported (Err f) h = record { gives = h.0; fault = (h.1, h.2) }
+
+-- it begins with no fault, and ends with what the latch says
+pub latched : {N L A : Type 0} {gave within : N → List Message → N → Type 0} {failed : N → ℕ} {loans : N → L}
+    → IsSink gave within → {name last : GName} {s t : N} {none fault : Option Fault} (notes : List Message)
+    (r : Result A Fault) → none ≡ None
+    → ((plan : Planned N L Message) (rest : List Message)
+    → Left (TookNotes gave failed) (BrokeNotes within failed) loans plan name s none (notes ++ rest)
+    → Left (TookNotes gave failed) (BrokeNotes within failed) loans plan last t fault rest)
+    → MatchResult r (λ _. fault ≡ None) (λ f. fault ≡ Some f)
+    → (last ≡ name) × (loans t ≡ loans s) × Reports gave within failed r s notes t
+latched k notes r start came done =
+    let h = latches.latched (latches.note_items k) notes r start came done in
+    (h.0, h.1, reported r h.2)

@@ -3,8 +3,9 @@
 ghost use Rattle.std.specs.Prelude.{◌≡◌, ◌≤◌, ◌+◌, ◌*◌, List, [], ◌∷◌, ◌++◌, length, None};
 ghost use Rattle.page_core_base.specs.declared.limits.TheConstants.{EXPAND, REREAD};
 ghost use Rattle.page_roff_source.specs.Runs.{RoffEdge, SourceLine, given, done};
-ghost use Rattle.page_roff_source.specs.laws.Views.{line_count, EachIsWithin};
-ghost use Rattle.page_roff_source.specs.machine.LineByLine.{lines_given, lines_done};
+ghost use Rattle.page_roff_source.specs.laws.Expansions.{EachIsWithin};
+ghost use Rattle.page_roff_source.specs.laws.Views.{line_count};
+ghost use Rattle.page_roff_source.specs.machine.RoffLines.{lines_given, lines_done};
 
 /// What the forest of all lines gives, inside what is open, is what the lines give one after another: each the messages in front of it and then its own,
 /// from where the lines before it left the page.

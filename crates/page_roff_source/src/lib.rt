@@ -2,16 +2,14 @@
 //!
 //! The top of roff: it takes the lines of `page_roff_lines`, runs them on `page_roff_machine`, and lends finished lines to the sets of macros:
 //! `RoffLines` to the page, `Roff` over a sink of messages. Read `specs/Runs.antt` (what a source does, all
-//! lines, and what decides the rest) first, then `specs/machine/Taking.antt` (one line at a time) with `roff_lines.rt`.
+//! lines, and what decides the rest) first, then `specs/machine/RoffLines.antt` (one line at a time) with `roff_lines.rt`.
 //!
 //! Proved: `Roff::new`, `source`, `take`, `end`, `idle`, `counts`, and `RoffLines`, the same without a sink that fails: what a source line gives
-//! up to its end is `line_given`, from the edge where the lines before it left the page (`specs/Runs.antt`, `specs/machine/Taking.antt`), in
-//! lines of UTF-8; after a fault of the sink and after the end the answer is `Failed`. `Roff::part`, `Roff::from_part`: roff's part of what is
+//! up to its end is `line_given`, from the edge where the lines before it left the page (`specs/Runs.antt`, `specs/machine/RoffLines.antt`), in
+//! lines of at most 65,536 bytes; after a fault of the sink and after the end the answer is `Failed`. `Roff::part`, `Roff::from_part`: roff's part of what is
 //! held between two lines (`specs/laws/Views.antt`), and roff that goes on from it. `caps_law`: what is held, and what runs, is within its limits
 //! (`specs/laws/Views.antt`). `forest_law`, `cut_law`, `count_law`, `room_law`: the forest of all lines gives what the lines give one after another
 //! (`specs/Runs.antt`); a line takes at most 1,001 lines, with at most 1,000 interpolations for each.
-//! `texts_law`: where each line of a page is UTF-8 of at most 65,536 bytes without a control character but the tab, so is each line that roff gives of
-//! it, and each string, argument and line of a macro, whatever is defined, appended, cut or passed (`specs/machine/Texts.antt`).
 #![tactic(auto)]
 
 mod counts;
@@ -19,11 +17,9 @@ mod laws;
 mod parts;
 mod roff_lines;
 mod roffs;
-mod text_laws;
 
 pub use counts::Counts;
 pub use laws::{count_law, cut_law, forest_law, room_law};
 pub use parts::RoffPart;
 pub use roff_lines::RoffLines;
 pub use roffs::Roff;
-pub use text_laws::texts_law;

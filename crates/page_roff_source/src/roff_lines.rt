@@ -9,8 +9,7 @@ ghost use Rattle.page_core_base.specs.declared.limits.TheConstants.{LINE};
 ghost use Rattle.page_roff_machine.specs.Giving.{notes_before, next_line};
 ghost use Rattle.page_roff_source.specs.laws.Views.{RoffFits, RunsWithin, given_of, line_taken, is_idle, edge_at, part_of};
 ghost use Rattle.page_roff_source.specs.Runs.{first_edge, end_notes, counts_of};
-ghost use Rattle.page_roff_source.specs.machine.Taking.{run_begun, TakesSource};
-ghost use Rattle.page_roff_source.specs.machine.RoffLines.{RunsOn, run_if};
+ghost use Rattle.page_roff_source.specs.machine.RoffLines.{run_begun, TakesSource, RunsOn, run_if};
 
 use crate::counts::Counts;
 use crate::parts::RoffPart;
@@ -55,11 +54,9 @@ pub struct RoffLines {
 }
 
 impl Model for RoffLines {
-    ghost use Rattle.page_roff_source.specs.machine.Taking.{LinesState};
+    ghost use Rattle.page_roff_source.specs.machine.RoffLines.{LinesState, state_of, IsAtEdge};
 
     ghost Value = { LinesState };
-
-    ghost use Rattle.page_roff_source.specs.machine.RoffLines.{state_of, IsAtEdge};
 
     ghost view = { λ l. state_of l.machine l.source l.remaining };
 
@@ -136,7 +133,7 @@ impl RoffLines {
         requires count { self.old.edge.source < 2 ^ 31 }
         ensures takes { TakesSource (option_map line_view result) (record { text = line.now; number = number; notes = [] })
             self.old.edge self.new.edge }
-        ensures text { IfSome result (λ taken. IsLine taken.text.now) }
+        ensures text { IfSome result (λ taken. length taken.text.now ≤ LINE) }
     {
         self.source += 1;
         let taken = self.machine.begin(line, number, free);
@@ -176,12 +173,11 @@ impl RoffLines {
         self.machine.line()
     }
 
-    /// The next finished line of the source line: UTF-8 of at most `LINE` bytes without a control character but the tab; none where the source
-    /// line is done. The messages before it are reported first.
+    /// The next finished line of the source line, of at most `LINE` bytes; none where the source line is done. The messages before it are reported first.
     pub fn take_into<O: NoteOut>(&mut self, out: &mut O) -> Option<Taken<'_>>
         ensures came { Came O.left out.old (notes_before (given_of self.old.edge)) out.new }
         ensures line { option_map line_view result ≡ next_line (given_of self.old.edge) }
-        ensures text { IfSome result (λ taken. IsLine taken.text.now) }
+        ensures text { IfSome result (λ taken. length taken.text.now ≤ LINE) }
         ensures* after { sem 𝓛 (follows_so the_row the_row self.entry.ghost_name none (λ _ _. ⊤)
             (λ v. v.edge ≡ line_taken self.old.edge)) }
     {

@@ -1,10 +1,11 @@
 //! Roff over a sink of messages.
 
-ghost use Rattle.std.specs.Prelude.{◌≡◌, true, ◌<◌, ◌^◌, ⊤, [], None, Some, Ok, Err, IfOk, IfErr, IfSome, MatchResult, option_map};
+ghost use Rattle.std.specs.Prelude.{◌≡◌, ◌≤◌, true, ◌<◌, ◌^◌, length, ⊤, [], None, Some, Ok, Err, IfOk, IfErr, IfSome, MatchResult, option_map};
 ghost use mathlib.Core.Option.{none};
 ghost use Rattle.std.specs.Borrow.{sem, follows_so};
 ghost use Rattle.page_core_base.specs.laws.Views.{line_view};
 ghost use Rattle.page_core_base.specs.Texts.{IsLine};
+ghost use Rattle.page_core_base.specs.declared.limits.TheConstants.{LINE};
 ghost use Rattle.page_roff_machine.specs.Giving.{notes_before, next_line};
 ghost use Rattle.page_roff_source.specs.laws.Views.{RoffFits, RunsWithin, line_begun, given_of, line_taken, part_of, first_state, state_at, is_idle_at, counts_from, Reports};
 ghost use Rattle.page_roff_source.specs.Runs.{RoffEdge, end_notes, counts_of};
@@ -52,7 +53,6 @@ fn advance<N: NoteSink>(lines: &mut RoffLines, notes: &mut N) -> Result<bool, Fa
         (notes_before (given_of lines.old.edge)) notes.new }
     ensures line { IfOk result (λ is_taken. next_line (given_of lines.old.edge)
         ≡ taken_if is_taken lines.new.line) }
-    ensures text { IfOk result (λ is_taken. is_taken ≡ true → IsLine lines.new.line.text) }
     ensures edge { lines.new.edge ≡ line_taken lines.old.edge }
     ensures same { N.loans notes.new ≡ N.loans notes.old }
 {
@@ -154,8 +154,7 @@ impl Roff {
         }
     }
 
-    /// The next finished line of the source line: UTF-8 of at most `LINE` bytes without a control character but the tab; none where the source
-    /// line is done. The messages before it are given first.
+    /// The next finished line of the source line, of at most `LINE` bytes; none where the source line is done. The messages before it are given first.
     ///
     /// Its fault is [`Fault::WriteNotes`]; after it, and after the end, it is [`Fault::Failed`].
     pub fn take<N: NoteSink>(&mut self, notes: &mut N) -> Result<Option<Taken<'_>>, Fault>
@@ -163,7 +162,7 @@ impl Roff {
             → Reports N.gave N.within N.failed result notes.old (notes_before (given_of e)) notes.new }
         ensures line { (e : RoffEdge) → self.old.edge ≡ Some e
             → IfOk result (λ taken. option_map line_view taken ≡ next_line (given_of e)) }
-        ensures text { IfOk result (λ taken. IfSome taken (λ t. IsLine t.text.now)) }
+        ensures text { IfOk result (λ taken. IfSome taken (λ t. length t.text.now ≤ LINE)) }
         ensures closed { self.old.edge ≡ None → (result ≡ Err Fault.Failed) × (notes.new ≡ notes.old) }
         ensures same { N.loans notes.new ≡ N.loans notes.old }
         ensures* after { sem 𝓛 (follows_so the_row the_row self.entry.ghost_name none (λ _ _. ⊤)

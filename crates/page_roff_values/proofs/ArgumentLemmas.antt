@@ -1,9 +1,21 @@
 -- The arguments of a macro in their bytes: helpers of proofs.
-use Rattle.std.proofs.Common.{◌≡◌, ℕ, zero, suc, ◌+◌, ◌<◌, ◌≤◌, Bool, true, false, ◌==◌, List, [], ◌∷◌, ◌++◌, length, get_or, take, drop, if◌then◌else◌, refl, ◌∙◌, sym, append-nil, arith, ◌*◌}
+use Rattle.std.proofs.Common.{◌≡◌, ℕ, zero, suc, ◌+◌, ◌<◌, ◌≤◌, Bool, true, false, ◌==◌, List, [], ◌∷◌, ◌++◌, length, get_or, take, drop, if◌then◌else◌, refl, ◌∙◌, sym, append-nil, arith, ◌*◌, not, ap, append_assoc, ◌-◌, length-append, length-drop}
 use Rattle.std.proofs.lemmas.Bool.{eqb-true}
 use Rattle.page_core_base.specs.declared.limits.TheConstants.{ARGS}
-use Rattle.page_roff_values.specs.Values.{begin_first, arguments_in, argument_at, spaced, spaced_quoted}
-use Rattle.page_roff_values.specs.machine.Held.{AreHeld}
+use Rattle.page_roff_values.specs.Values.{begin_first, arguments_in, argument_at, spaced, spaced_quoted, TextSoFar, LaidText, nothing, join, unless, seq}
+use Rattle.page_roff_values.specs.machine.Rest.{AreHeld, units_of_text, AreMeasured, IsMeasured, text_of}
+use Rattle.page_core_base.specs.Messages.{Message}
+use Rattle.page_roff_values.specs.laws.Views.{Goes}
+use Rattle.std.specs.Str.{IsUtf8}
+use Rattle.page_core_base.specs.declared.page_settings.Output.{Output}
+use Rattle.page_core_numbers.specs.Columns.{characters_columns}
+use Rattle.page_core_numbers.specs.machine.Signs.{Left}
+use Rattle.page_core_numbers.proofs.ExpressionLemmas.{printed-same}
+use Rattle.std.proofs.lemmas.List.{drop-append-le, take-append-le, take_all, drop_at}
+use Rattle.std.proofs.lemmas.Str.{is_utf8-from_IsUtf8}
+use Rattle.page_core_base.specs.Limits.{LINE}
+use Rattle.std.proofs.lemmas.List.Elements.{All-weaker, All-push}
+use Rattle.page_roff_values.specs.declared.known_widths.KnownWidth.{KnownWidth}
 
 pub not_true : (b : Bool) → ¬ (b ≡ true) → b ≡ false
 not_true true h = absurd (h refl)
@@ -79,3 +91,112 @@ held_none p q r a b c e f g h k l = rw (e, f, g) (record {
   joined_fits = k;
   quoted_fits = l;
 })
+
+-- ---- How one thing is laid after another: helpers of proofs.
+
+abbrev laid : List Message → TextSoFar → LaidText
+laid notes edge = record { notes = notes; edge = edge }
+
+unless_more : (b : Bool) (a y : LaidText) → unless b a y ≡ join a (unless b (nothing a.edge) y)
+unless_more true a y = ap (λ n. laid n a.edge) (sym (append-nil a.notes))
+unless_more false a y = refl
+
+-- what was laid, and then the rest
+pub seq_more : (a : LaidText) (f : TextSoFar → LaidText) → seq a f ≡ join a (seq (nothing a.edge) f)
+unfolding seq
+seq_more a f = unless_more a.edge.ended a (f a.edge)
+
+-- nothing, where the line has not ended
+pub seq_nothing : (s : TextSoFar) (f : TextSoFar → LaidText) → s.ended ≡ false → seq (nothing s) f ≡ f s
+unfolding seq
+seq_nothing s f e = rw e refl
+
+pub seq_ended : (s : TextSoFar) (f : TextSoFar → LaidText) → s.ended ≡ true → seq (nothing s) f ≡ nothing s
+unfolding seq
+seq_ended s f e = rw e refl
+
+assoc_last : (b : Bool) (x y : LaidText) (g : TextSoFar → LaidText) → unless b (join x y) (g y.edge) ≡ join x (unless b y (g y.edge))
+assoc_last true x y g = refl
+assoc_last false x y g = ap (λ n. laid n (g y.edge).edge) (append_assoc x.notes y.notes (g y.edge).notes)
+
+seq_assoc_at : (b : Bool) (x : LaidText) (f g : TextSoFar → LaidText) → x.edge.ended ≡ b → seq (unless b x (f x.edge)) g ≡ unless b x (seq (f x.edge) g)
+unfolding seq
+seq_assoc_at true x f g e = rw e refl
+seq_assoc_at false x f g e = assoc_last (f x.edge).edge.ended x (f x.edge) g
+
+pub seq_assoc : (x : LaidText) (f g : TextSoFar → LaidText) → seq (seq x f) g ≡ seq x (λ s. seq (f s) g)
+unfolding seq
+seq_assoc x f g = seq_assoc_at x.edge.ended x f g refl
+
+end_if : (b : Bool) (a : LaidText) → unless b a (nothing a.edge) ≡ a
+end_if true a = refl
+end_if false a = ap (λ n. laid n a.edge) (append-nil a.notes)
+
+-- and then nothing more
+pub seq_end : (a : LaidText) → seq a nothing ≡ a
+unfolding seq
+seq_end a = end_if a.edge.ended a
+
+-- ---- messages that were given
+
+-- some, and then the rest
+pub goes_on : {P S : Type 0} (left : P → S → List Message → Type 0) (s t : S) (all given : LaidText) (e : TextSoFar) (f : TextSoFar → LaidText)
+    → all ≡ join given (seq (nothing given.edge) f) → Goes left s given t (nothing e) → Goes left s all t (seq (nothing e) f)
+goes_on left s t all given e f q k = rw k.1 (
+  (λ plan more h. k.0 plan ((seq (nothing given.edge) f).notes ++ more) (rw (q, append_assoc) at h)),
+  sym (ap (λ (a : LaidText). a.edge) q),
+)
+
+-- one after another
+pub goes_then : {P S : Type 0} (left : P → S → List Message → Type 0) (s t u : S) (all next last : LaidText)
+    → Goes left s all t next → Goes left t next u last → Goes left s all u last
+goes_then left s t u all next last h k = ((λ plan more g. k.0 plan more (h.0 plan more g)), k.1 ∙ h.1)
+
+-- no message
+pub goes_same : {P S : Type 0} (left : P → S → List Message → Type 0) (s : S) (all next : LaidText) → all ≡ next → Goes left s all s next
+goes_same left s all next e = ((λ plan more h. rw e at h), sym (ap (λ (a : LaidText). a.edge) e))
+
+pub going : (b : Bool) → true ≡ not b → b ≡ false
+going true e = let no : ⊥ = cc in absurd no
+going false e = refl
+
+pub gone : (b : Bool) → false ≡ not b → b ≡ true
+gone true e = refl
+gone false e = let no : ⊥ = cc in absurd no
+
+-- ---- Texts of which the same is left behind their fronts: helpers of proofs.
+
+-- the width of a text by that of another one, where the same is left of both
+pub units_alike : (output : Output) (text known rest : List ℕ) (columns known_columns units : ℕ) → IsUtf8 rest → Left output text columns rest
+    → Left output known known_columns rest → units ≡ units_of_text output known → (24 * known_columns ≤ units) × (units - 24 * known_columns + 24 * columns ≡ units_of_text output text)
+units_alike output text known rest columns known_columns units utf8 l k e =
+    let same = ap characters_columns (printed-same l.steps k.steps output rest utf8 l.enough k.enough) in
+    (omega (arith, l.same, k.same, e, same), omega (arith, l.same, k.same, e, same))
+
+-- ---- Widths of texts that are remembered: helpers of proofs.
+
+-- behind the texts there may come more
+measured_more : (texts more : List ℕ) (width : KnownWidth) → IsMeasured texts width → IsMeasured (texts ++ more) width
+measured_more texts more width h =
+    let n = width.end - width.start in
+    let same : take n (drop width.start (texts ++ more)) ≡ take n (drop width.start texts) =
+    rw (drop-append-le width.start texts more (omega (arith, h.0, h.1)))
+    (take-append-le n (drop width.start texts) more (omega (arith, length-drop width.start texts, h.1))) in
+    (h.0, omega (arith, h.1, length-append texts more), rw same h.2, h.3, rw same h.4, h.5)
+
+pub all_more : (texts more : List ℕ) (widths : List KnownWidth) → AreMeasured texts widths → AreMeasured (texts ++ more) widths
+all_more texts more widths h = All-weaker (IsMeasured texts) (IsMeasured (texts ++ more)) (λ f k. measured_more texts more f k) widths h
+
+-- the text that is behind the others
+pub measured_last : (texts text : List ℕ) (width : KnownWidth) → width.start ≡ length texts → width.end ≡ length texts + length text → length text ≤ LINE
+    → IsUtf8 text → width.units ≤ 24000 * length text → width.units ≡ units_of_text width.output text → IsMeasured (texts ++ text) width
+measured_last texts text width s e short utf8 bound h =
+    let n : width.end - width.start ≡ length text = omega arith in
+    let whole : text_of (texts ++ text) width ≡ text = rw (n, drop_at texts text width.start (sym s)) (take_all (length text) text (omega arith)) in
+    let is = is_utf8-from_IsUtf8 text utf8 in
+    (omega arith, omega (arith, length-append texts text), rw (whole, is) h, omega arith, rw whole is, rw n bound)
+
+-- one more width
+pub measured_push : (texts : List ℕ) (widths new : List KnownWidth) (width : KnownWidth) → AreMeasured texts widths → IsMeasured texts width
+    → new ≡ widths ++ width ∷ [] → AreMeasured texts new
+measured_push texts widths new width h k e = rw e (All-push (IsMeasured texts) widths width h k)

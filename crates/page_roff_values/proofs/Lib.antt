@@ -1,15 +1,3 @@
 pub mod ArgumentLemmas
-pub mod CallLemmas
-pub mod CopiedLemmas
-pub mod FollowLemmas
-pub mod FrontLemmas
-pub mod GoingLemmas
-pub mod GrowLemmas
-pub mod LayLemmas
 pub mod LineLemmas
-pub mod MeasuredLemmas
-pub mod PartTexts
-pub mod PlainTexts
 pub mod TextLemmas
-pub mod ValueTexts
-pub mod WidthLemmas

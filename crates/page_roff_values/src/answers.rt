@@ -5,7 +5,7 @@ ghost use Rattle.std.specs.Str.{bytes_eq};
 ghost use Rattle.page_roff_values.specs.Answers as asked;
 ghost use Rattle.page_roff_values.specs.laws.Views.{Gives, Goes};
 ghost use Rattle.page_roff_heads.specs.laws.Views.{condition_view, test_view, FitsTest, placed_view, FitsPlaced};
-ghost use Rattle.page_roff_values.specs.machine.Views.{surroundings_of};
+ghost use Rattle.page_roff_values.specs.machine.Rest.{surroundings_of};
 ghost use Rattle.page_roff_values.specs.Values.{nothing};
 
 use crate::environments::Environment;

@@ -2,7 +2,7 @@
 
 ghost use Rattle.std.specs.Prelude.{◌≡◌};
 ghost use Rattle.page_roff_values.specs.Values.{read_only, register_found, register_of};
-ghost use Rattle.page_roff_values.specs.machine.Views.{surroundings_of};
+ghost use Rattle.page_roff_values.specs.machine.Rest.{surroundings_of};
 
 use crate::call_arguments::CallArguments;
 use page_core_base::Output;

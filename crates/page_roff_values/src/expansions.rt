@@ -4,13 +4,10 @@ ghost use Rattle.std.specs.Prelude.{◌≡◌, ◌+◌, ◌-◌, ◌*◌, ◌^�
 ghost use Rattle.std.specs.Fmt.{decimal, signed_decimal};
 ghost use Rattle.page_core_base.specs.declared.limits.TheConstants.{LINE};
 ghost use Rattle.page_roff_values.specs.laws.Views.{Goes};
-ghost use Rattle.page_roff_values.specs.machine.Rest.{Reads, calling, going_on, size, steps, texts_of};
+ghost use Rattle.page_roff_values.specs.machine.Rest.{Reads, calling, going_on, size, steps, texts_of, outermost, over, going_inside, going_outside, surroundings_of};
 ghost use Rattle.page_roff_values.specs.Values as laying;
 ghost use Rattle.page_roff_values.specs.laws.Views as laying_laws;
-ghost use Rattle.page_roff_values.specs.machine.Expansions.{outermost, over};
-ghost use Rattle.page_roff_values.specs.machine.Steps.{going_inside, going_outside};
 ghost use Rattle.page_roff_parts.specs.machine.Verbatim.{call_of};
-ghost use Rattle.page_roff_values.specs.machine.Views.{surroundings_of};
 ghost use Rattle.page_roff_values.specs.Values.{units_of};
 
 use crate::endings::kept;
@@ -62,7 +59,7 @@ struct Nested {
 }
 
 impl Model for Nested {
-    ghost use Rattle.page_roff_values.specs.machine.Expansions.{IsHeld, NestedSpot, nested_of};
+    ghost use Rattle.page_roff_values.specs.machine.Rest.{IsHeld, NestedSpot, nested_of};
 
     ghost Value = { NestedSpot };
 

@@ -4,9 +4,8 @@
 ghost use Rattle.std.specs.Prelude.{◌≡◌, ◌+◌, ◌-◌, ◌*◌, ◌<◌, ◌≤◌, length, vec_capacity, take, drop, IfSome, IsTrue};
 ghost use Rattle.page_core_base.specs.declared.limits.TheConstants.{LINE};
 ghost use Rattle.page_roff_values.specs.declared.known_widths.TheConstants.{TEXTS, WIDTHS};
-ghost use Rattle.page_roff_values.specs.machine.Measured.{AreMeasured, IsMeasured};
+ghost use Rattle.page_roff_values.specs.machine.Rest.{AreMeasured, IsMeasured, units_of_text};
 ghost use Rattle.page_roff_values.specs.Values.{units_of};
-ghost use Rattle.page_roff_values.specs.machine.Views.{units_of_text};
 
 use crate::fronts::{common_len, read_front};
 use page_core_base::{Output, append};

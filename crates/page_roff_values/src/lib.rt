@@ -7,9 +7,8 @@
 //!
 //! Proved: `Expansion::expand`, `expand_more`, `CallArguments::set`: a text once strings, registers, arguments and widths are interpolated, with its
 //! messages at their columns and the count of interpolations, is `value` (`specs/Values.antt`), a recursion in which a value is expanded by itself
-//! before the rest. `is_bounded`, `keeps_texts`: no line makes more interpolations, and none grows
-//! longer, than the limits say; what is expanded from lines is a line. `holds`: whether a written condition holds, with its messages, also where its
-//! texts are cut (`specs/Answers.antt`).
+//! before the rest. `is_bounded`: no line makes more interpolations, and none grows longer, than the limits say.
+//! `holds`: whether a written condition holds, with its messages, also where its texts are cut (`specs/Answers.antt`).
 #![tactic(auto)]
 
 mod answers;
@@ -27,5 +26,5 @@ pub use answers::holds;
 pub use call_arguments::CallArguments;
 pub use environments::Environment;
 pub use expansions::Expansion;
-pub use laws::{is_bounded, keeps_texts};
+pub use laws::is_bounded;
 pub use numbers::expression;

@@ -29,7 +29,7 @@ impl Cursor {
 
     // Whether it is at the end of the line's text. Then no argument is left; where blanks end the text, none may be left before its end
     // either.
-    #[tactic(auto, using(crate::proofs::CursorLemmas::none_at))]
+    #[tactic(auto, using(crate::proofs::WordSpanLemmas::none_at))]
     fn is_at_end(self, text: &[u8]) -> bool
         ensures { MatchBool result (arguments_after self.rest text.now ≡ []) (Unit {0}) }
     {

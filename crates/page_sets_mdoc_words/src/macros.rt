@@ -175,7 +175,7 @@ fn give_synopsis<'a, O: EventTaker<'a>>(out: &mut O, place: Place, step: Option<
 }
 
 /// Gives a macro with its words, the first of its line or not, with what it does in the SYNOPSIS.
-#[tactic(auto, using(crate::proofs::SynopsisLemmas::framed_by))]
+#[tactic(auto, using(crate::proofs::WordPrintLemmas::framed_by))]
 pub fn give_macro<'a, O: EventTaker<'a>>(
     out: &mut O,
     first: bool,

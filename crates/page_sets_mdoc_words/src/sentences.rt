@@ -135,7 +135,7 @@ fn give_and<'a, O: EventTaker<'a>>(out: &mut O, place: Place, left: NameCount)
 }
 
 // All names of this many, and the rest of the sentence.
-#[tactic(auto, using(crate::proofs::SentenceLemmas::name_goes_on))]
+#[tactic(auto, using(crate::proofs::WordPrintLemmas::name_goes_on))]
 fn give_names<'a, O: EventTaker<'a>>(
     out: &mut O,
     place: Place,
@@ -178,7 +178,7 @@ fn give_manual_name<'a, O: EventTaker<'a>>(
 }
 
 /// Gives a sentence with its names, or with the name of the manual where none is given.
-#[tactic(auto, using(crate::proofs::SentenceLemmas::given_by))]
+#[tactic(auto, using(crate::proofs::WordPrintLemmas::given_by))]
 pub fn give_sentence<'a, O: EventTaker<'a>>(
     out: &mut O,
     place: Place,

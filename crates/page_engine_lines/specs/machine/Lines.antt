@@ -6,7 +6,7 @@ use Rattle.page_core_base.specs.Rows.{Item, noted, says}
 use Rattle.page_core_base.specs.declared.note_kinds.NoteKind.TheVariants.{TrailingBlank, NoBody}
 use Rattle.page_roff_syntax.specs.Delimiters.{kept_len}
 use Rattle.page_roff_source.specs.Runs as roff
-use Rattle.page_roff_source.specs.machine.Taking as taking
+use Rattle.page_roff_source.specs.machine.RoffLines as taking
 use Rattle.page_roff_source.specs.Runs.{SourceLine}
 use Rattle.page_engine_lines.specs.laws.Views as bodies
 use Rattle.page_scopes_words.specs.Words.{at}

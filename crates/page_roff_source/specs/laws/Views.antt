@@ -1,22 +1,18 @@
 -- What contracts of the code say by the definitions, and what is proved of these.
 use Rattle.std.specs.Prelude.{ℕ, suc, List, [], ◌∷◌, ◌+◌, ◌*◌, ◌≤◌, length, sum_by, Option, Some, None, Bool, true, ◌≡◌, Result, MatchResult, ◌^◌, is_none, unwrap_or}
-use Rattle.page_core_base.specs.Limits.{ARGS, BODY, CALLS, EXPAND, LINE, REREAD}
+use Rattle.page_core_base.specs.Limits.{ARGS, BODY, CALLS, LINE, REREAD}
 use Rattle.page_core_base.specs.Messages.{Rose, Message}
 use Rattle.page_core_base.specs.Texts.{TakenLine}
 use Rattle.page_core_base.specs.declared.faults.Fault.{Fault}
 use Rattle.page_core_base.specs.declared.faults.Fault.TheVariants.{WriteNotes}
 use Rattle.page_core_base.specs.declared.page_settings.Output.{Output}
 use Rattle.page_roff_blocks.specs.Forest.{SourcePlace}
-use Rattle.page_roff_blocks.specs.laws.Spent.{Spends}
 use Rattle.page_roff_blocks.specs.laws.Views.{PlaceFits}
-use Rattle.page_roff_values.specs.Values.{units_of}
 use Rattle.page_roff_effects.specs.States.{Given, says, takes, Memory}
 use Rattle.page_roff_effects.specs.laws.Views.{MemoryFits}
-use Rattle.page_roff_effects.specs.machine.Acting.{effects, expansions_of}
 use Rattle.page_roff_machine.specs.Giving.{next_line, after_line}
 use Rattle.page_roff_machine.specs.machine.Moving.{IsPassed}
 use Rattle.page_roff_source.specs.Runs.{RoffEdge, first_edge, counts_of, SourceLine, given, done}
-use Rattle.page_roff_source.specs.machine.Texts.{HoldsTexts}
 use Rattle.page_roff_source.specs.declared.counts.Counts.{Counts}
 
 -- how many lines for the set of macros there are among what was given
@@ -37,10 +33,6 @@ pub record RoffFits (e : RoffEdge) : Type 0 where
   -- the names of the region that is open, if one is, and the true blocks that are open
   pub place : PlaceFits e.place
 
--- `EXPAND` at most, whatever it is, as the parts of a source run by which a page goes on from an edge
-abbrev pub EachIsWithin : RoffEdge → Type 0
-EachIsWithin e = Spends expansions_of EXPAND (effects (units_of e.output))
-
 -- where the page is, in a region and in blocks; what is remembered; how many source lines came, and how many lines were taken of them
 pub record Part : Type 0 where
   pub place : SourcePlace
@@ -55,12 +47,11 @@ part_of e = record { place = e.place; memory = e.memory; source = e.source; take
 abbrev pub edge_at : Output → Part → RoffEdge
 edge_at output p = record { output = output; place = p.place; memory = p.memory; source = p.source; taken = p.taken; to_come = None }
 
--- so few lines came that no count is too large; all that is remembered is text; in a loop that is collected no region is run
+-- so few lines came that no count is too large; in a loop that is collected no region is run
 pub record IsPart (p : Part) : Type 0 where
   pub source : p.source ≤ 2 ^ 31
   pub taken : p.taken ≤ (REREAD + 1) * p.source
   pub skipped : p.place.levels.skipped ≤ (2 * LINE + 2) * p.source
-  pub texts : HoldsTexts p.memory
   pub passed : p.place.levels.in_loop ≡ true → IsPassed p.place.region
 
 -- a line begins: the page is where the line leaves it, and all that the line gives is to come

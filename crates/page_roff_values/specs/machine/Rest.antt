@@ -1,13 +1,82 @@
--- What is still to be laid of the texts that are being read: the code's own steps. Trust needs no reading of it.
-use Rattle.std.specs.Prelude.{◌≡◌, ℕ, suc, ◌+◌, ◌-◌, ◌*◌, ◌^◌, ◌≤◌, false, List, [], ◌∷◌, length, map, reverse, Bool, Option, MatchOption}
+-- How the code holds a line, inside widths too: the code's own form of it. Trust needs no reading of it.
+use Rattle.std.specs.Prelude.{ℕ, ◌+◌, ◌*◌, ◌^◌, ◌≤◌, List, [], length, take, drop, ◌≡◌, ◌-◌, true, suc, false, ◌∷◌, map, reverse, Bool, Option, MatchOption, ◌++◌}
+use Rattle.std.specs.Vec.{vec_capacity}
+use Rattle.page_core_base.specs.Limits.{LINE, ARGS, EXPAND}
+use Rattle.page_core_base.specs.laws.Views.{NEST}
+use Rattle.page_roff_values.specs.declared.expansions.Nested.TheInside.{Inside}
+use Rattle.page_roff_values.specs.Values.{TextSoFar, arguments_in, spaced, spaced_quoted, units_of, Surroundings, LaidText, nothing, seq, put, call_at, value, finished_len, inside, adds, start, expanded}
+use Rattle.std.specs.List.{All}
+use Rattle.std.specs.Str.{is_utf8}
+use Rattle.page_roff_values.specs.declared.known_widths.KnownWidth.{KnownWidth}
 use Rattle.std.specs.Borrow.{Bor}
-use Rattle.page_core_base.specs.Limits.{EXPAND, LINE}
 use Rattle.page_roff_parts.specs.declared.parts.Call.{Call}
 use Rattle.page_roff_parts.specs.declared.parts.Part.{Part}
 use Rattle.page_roff_parts.specs.declared.parts.Part.TheVariants.{Copied, Called}
 use Rattle.page_roff_values.specs.declared.sources.Sources.{Sources}
-use Rattle.page_roff_values.specs.Values.{Surroundings, TextSoFar, LaidText, nothing, seq, put, call_at, value, finished_len}
 use Rattle.page_roff_parts.specs.machine.Verbatim.{part_of}
+use Rattle.page_core_base.specs.declared.page_settings.Output.{Output}
+use Rattle.page_core_numbers.specs.Columns.{columns_of}
+use Rattle.page_roff_values.specs.declared.environments.Environment.{Environment}
+
+-- a line so far, or the text of a width, and what is finished of those that it is inside of, one after another
+pub record NestedSpot : Type 0 where
+  pub spot : TextSoFar
+  pub before : List ℕ
+
+-- one that is inside of no other
+abbrev pub outermost : TextSoFar → NestedSpot
+outermost s = record { spot = s; before = [] }
+
+-- a step of its own: those that it is inside of stay
+abbrev pub over : (TextSoFar → TextSoFar) → NestedSpot → NestedSpot
+over f s = record { spot = f s.spot; before = s.before }
+
+abbrev pub nested_of : Inside → NestedSpot
+nested_of a = record {
+  spot = record {
+    around = record { line = a.line; bytes_before = a.bytes_before; width_column = a.width_column };
+    text = drop a.start a.text.items;
+    count = a.count;
+    ended = a.ended;
+  };
+  before = take a.start a.text.items;
+}
+
+pub record IsHeld (a : Inside) : Type 0 where
+  pub start : a.start ≤ length a.text.items
+  pub line : length a.text.items ≤ a.start + LINE
+  pub outside : a.start ≤ LINE * NEST
+  pub room : LINE * (NEST + 1) ≤ vec_capacity a.text
+  pub bytes_before : a.bytes_before ≤ 2 ^ 31
+
+-- ---- How the code holds the arguments of a macro: the code's own form of them. Trust needs no reading of it.
+
+-- the count of the arguments, their bytes, and the texts of all, each with the memory for it
+pub record AreHeld (count : ℕ) (packed spaced_text quoted_text : List ℕ) (packed_room spaced_room quoted_room : ℕ) : Type 0 where
+  pub counted : count ≡ length (arguments_in packed)
+  pub short : length packed ≤ ARGS
+  pub joined : spaced_text ≡ spaced (arguments_in packed)
+  pub quoted : quoted_text ≡ spaced_quoted (arguments_in packed)
+  pub packed_fits : ARGS ≤ packed_room
+  pub joined_fits : ARGS + 1 ≤ spaced_room
+  pub quoted_fits : 3 * (ARGS + 1) ≤ quoted_room
+
+-- ---- A fast way of the code, which no public clause cites: texts that are remembered with their widths. Trust needs no reading of it.
+
+-- the text of a width
+abbrev pub text_of : List ℕ → KnownWidth → List ℕ
+text_of texts width = take (width.end - width.start) (drop width.start texts)
+
+-- the text between two places of these texts is no longer than a line, it is in UTF-8, and it has these units in this output
+abbrev pub IsMeasured : List ℕ → KnownWidth → Type 0
+IsMeasured texts width =
+    (width.start ≤ width.end) × (width.end ≤ length texts) × (width.units ≡ units_of width.output (text_of texts width))
+    × (width.end ≤ width.start + LINE) × (is_utf8 (text_of texts width) ≡ true) × (width.units ≤ 24000 * (width.end - width.start))
+
+abbrev pub AreMeasured : List ℕ → List KnownWidth → Type 0
+AreMeasured texts widths = All (IsMeasured texts) widths
+
+-- ---- What is still to be laid of the texts that are being read: the code's own steps. Trust needs no reading of it.
 
 -- how many interpolations more may be inside the innermost of these texts, where this many may inside the outermost
 unfoldable pub room_in : ℕ → List (List ℕ) → ℕ
@@ -52,3 +121,33 @@ HUGE = 2 ^ 64
 
 unfoldable pub steps : TextSoFar → List (List ℕ) → ℕ
 steps s ts = HUGE * (EXPAND - s.count) + size ts
+
+-- ---- The code's own steps on a line. Trust needs no reading of it.
+
+-- the text of a width, as the code begins it
+abbrev pub going_inside : NestedSpot → NestedSpot
+going_inside s = record { spot = inside s.spot; before = s.before ++ s.spot.text }
+
+-- a line after the text of a width, as the code goes on with it
+abbrev pub going_outside : ℕ → Option ℕ → NestedSpot → NestedSpot
+going_outside start width_column s = record {
+  spot = record s.spot { around = record s.spot.around { width_column = width_column }; text = drop start s.before };
+  before = take start s.before;
+}
+
+-- ---- A fast way of the code, which no public clause cites: lines that are what they give. Trust needs no reading of it.
+-- Source: roff(7), "Escape sequences".
+
+-- a line is what it gives, without a message and without an interpolation, whatever names stand for
+abbrev pub GivesItself : List ℕ → Type 0
+GivesItself text = (env : Surroundings) (line : ℕ) → env.copy ≡ false → expanded env line text ≡ nothing (adds text (start line))
+
+-- ---- How the code's values are seen. Trust needs no reading of it.
+
+-- of a text
+abbrev pub units_of_text : Output → List ℕ → ℕ
+units_of_text output text = 24 * columns_of output text
+
+abbrev pub surroundings_of : Environment → Surroundings
+surroundings_of e =
+    record { copy = e.copy; definitions = e.names.now; arguments = e.arguments.now; units = units_of e.output }

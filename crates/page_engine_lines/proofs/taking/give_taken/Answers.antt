@@ -32,4 +32,4 @@ returns-clause-body g c =
     body_done c.loop-taken.body c.loop-taken.roff.edge (body_after c.args.body.now (given_of c.args.roff.now.edge)) c.in_default.ensures.line c.loop-taken.invariant.1
 
 pub give_made-requires : goal.give_made-requires
-give_made-requires g c = c.in-Some.ensures.text.bounded
+give_made-requires g c = c.in-Some.ensures.text

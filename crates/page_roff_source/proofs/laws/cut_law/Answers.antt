@@ -1,4 +1,4 @@
-use Rattle.page_roff_source.proofs.CutLemmas.{given-append, done-append}
+use Rattle.page_roff_source.proofs.CountLemmas.{given-append, done-append}
 use Rattle.page_roff_source.proofs.laws.cut_law.Goals as goal
 
 pub returns : goal.returns

@@ -1,4 +1,4 @@
-use Rattle.page_roff_source.proofs.LineLemmas.{given-by_line, done-by_line}
+use Rattle.page_roff_source.proofs.CountLemmas.{given-by_line, done-by_line}
 use Rattle.page_roff_source.proofs.laws.forest_law.Goals as goal
 
 pub returns : goal.returns

@@ -1,7 +1,7 @@
 use Rattle.std.proofs.Common.{◌≤◌, ◌+◌, ◌*◌, length, sym, subst}
 use Rattle.page_roff_source.specs.Runs.{RoffEdge}
-use Rattle.page_roff_source.proofs.LineLemmas.{one_done}
-use Rattle.page_roff_source.proofs.RoomLemmas.{done_room}
+use Rattle.page_roff_source.proofs.CountLemmas.{one_done}
+use Rattle.page_roff_source.proofs.RoffLineLemmas.{done_room}
 use Rattle.page_roff_source.proofs.laws.room_law.Goals as goal
 
 pub returns : goal.returns

@@ -1,7 +1,7 @@
 use Rattle.std.proofs.Common.{Bool, Ok, Err, rules}
 use Rattle.page_roff_machine.specs.Giving.{notes_before}
 use Rattle.page_roff_source.specs.laws.Views.{given_of}
-use Rattle.page_roff_source.proofs.NoteLatchLemmas.{latched}
+use Rattle.page_roff_source.proofs.RunDepthLemmas.{latched}
 use Rattle.page_roff_source.proofs.roffs.advance.Goals as goal
 
 pub returns-in-Ok-clause-reports : goal.returns-in-Ok-clause-reports

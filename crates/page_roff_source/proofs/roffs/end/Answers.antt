@@ -1,6 +1,6 @@
 use Rattle.std.proofs.Common.{rules}
 use Rattle.page_roff_source.specs.Runs.{end_notes}
-use Rattle.page_roff_source.proofs.NoteLatchLemmas.{latched}
+use Rattle.page_roff_source.proofs.RunDepthLemmas.{latched}
 use Rattle.page_roff_source.proofs.roffs.end.Goals as goal
 
 pub returns-clause-reports : goal.returns-clause-reports

@@ -1,7 +1,7 @@
 use Rattle.std.proofs.Common.{◌≡◌, sym, ap₂, ◌∙◌}
 use Rattle.page_core_base.specs.laws.Views.{line_view}
 use Rattle.page_roff_source.specs.Runs.{RoffEdge}
-use Rattle.page_roff_source.specs.machine.Taking.{line_given}
+use Rattle.page_roff_source.specs.machine.RoffLines.{line_given}
 use Rattle.page_engine_lines.specs.Bodies.{BodyEdge}
 use Rattle.page_engine_lines.specs.Edges.{LinesEdge}
 use Rattle.page_engine_lines.specs.machine.Given.{body_after}

@@ -1,6 +1,6 @@
 use Rattle.std.proofs.Common.{subst}
 use Rattle.page_roff_source.specs.laws.Views.{RoffFits, RunsWithin}
-use Rattle.page_roff_source.specs.machine.Taking.{LinesState}
+use Rattle.page_roff_source.specs.machine.RoffLines.{LinesState}
 use Rattle.page_roff_source.proofs.RoffLineLemmas.{none_in, fits_at}
 use Rattle.page_roff_source.proofs.roff_lines.RoffLines.caps_law.Goals as goal
 

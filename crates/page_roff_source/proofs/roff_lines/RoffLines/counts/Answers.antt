@@ -1,5 +1,5 @@
 use Rattle.std.proofs.Common.{ap, ◌∙◌}
-use Rattle.page_roff_source.specs.machine.Taking.{LinesState}
+use Rattle.page_roff_source.specs.machine.RoffLines.{LinesState}
 use Rattle.page_roff_source.specs.Runs.{counts_of}
 use Rattle.page_roff_source.proofs.RoffLineLemmas.{none_in, counts_at}
 use Rattle.page_roff_source.proofs.roff_lines.RoffLines.counts.Goals as goal

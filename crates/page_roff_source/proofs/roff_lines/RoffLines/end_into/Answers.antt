@@ -1,5 +1,5 @@
 use Rattle.std.proofs.Common.{sym, ap, ◌∙◌}
-use Rattle.page_roff_source.specs.machine.Taking.{LinesState}
+use Rattle.page_roff_source.specs.machine.RoffLines.{LinesState}
 use Rattle.page_roff_source.specs.Runs.{end_notes}
 use Rattle.page_roff_source.proofs.RoffLineLemmas.{none_in, end_notes_at, end_invariant}
 use Rattle.page_roff_source.proofs.roff_lines.RoffLines.end_into.Goals as goal

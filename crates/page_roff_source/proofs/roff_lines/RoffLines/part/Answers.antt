@@ -1,5 +1,5 @@
 use Rattle.std.proofs.Common.{ap, sym, ◌∙◌}
-use Rattle.page_roff_source.specs.machine.Taking.{LinesState}
+use Rattle.page_roff_source.specs.machine.RoffLines.{LinesState}
 use Rattle.page_roff_source.specs.laws.Views.{part_of}
 use Rattle.page_roff_source.proofs.RoffLineLemmas.{none_in, part_at, is_part_at}
 use Rattle.page_roff_source.proofs.roff_lines.RoffLines.part.Goals as goal

@@ -1,7 +1,6 @@
 use Rattle.std.proofs.Common.{[], ◌+◌, ap, subst, ◌∙◌, option_map}
 use Rattle.page_core_base.specs.laws.Views.{line_view}
-use Rattle.page_roff_source.specs.machine.RoffLines.{edge_of}
-use Rattle.page_roff_source.specs.machine.Taking.{LinesState, TakesSource, run_begun}
+use Rattle.page_roff_source.specs.machine.RoffLines.{edge_of, LinesState, TakesSource, run_begun}
 use Rattle.page_roff_source.specs.Runs.{SourceLine}
 use Rattle.page_roff_source.proofs.RoffLineLemmas.{none_in, few_in, begin_room, begin_edge, begin_invariant, none_begins, none_takes, lend_takes, lend_text, lend_invariant}
 use Rattle.page_roff_source.proofs.roff_lines.RoffLines.take_source.Goals as goal
@@ -23,7 +22,7 @@ invariant_of-self c =
     begin_invariant a.machine c.begin-taken.new.self a.source a.remaining c.args.line.now c.args.number c.self.invariant
     (none_in a.machine a.source a.remaining _ c.self.view_is c.requires.idle)
     (none_begins a.machine c.begin-taken.new.self c.begin-taken.result c.args.line.now c.args.number none c.begin-taken.ensures)
-    (few_in a.machine a.source a.remaining _ c.self.view_is c.requires.count) c.requires.line
+    (few_in a.machine a.source a.remaining _ c.self.view_is c.requires.count) c.requires.line.bounded
 
 pub returns-then-is_none-clause-takes : goal.returns-then-is_none-clause-takes
 returns-then-is_none-clause-takes c =
@@ -33,7 +32,7 @@ returns-then-is_none-clause-takes c =
     none_takes c.begin-taken.result line _ _ none
     (begin_edge a.machine c.begin-taken.new.self a.source a.remaining c.args.line.now c.args.number c.self.invariant
     (none_in a.machine a.source a.remaining _ c.self.view_is c.requires.idle)
-    (none_begins a.machine c.begin-taken.new.self c.begin-taken.result c.args.line.now c.args.number none c.begin-taken.ensures) c.requires.line
+    (none_begins a.machine c.begin-taken.new.self c.begin-taken.result c.args.line.now c.args.number none c.begin-taken.ensures)
     ∙ ap (λ (r : LinesState). run_begun r.edge line) c.self.view_is)
 
 pub invariant_of-self-else-is_none : goal.invariant_of-self-else-is_none
@@ -41,7 +40,7 @@ invariant_of-self-else-is_none c =
     let a = c.self.inside in
     lend_invariant a.machine c.begin-taken.new.self a.source a.remaining c.begin-taken.result c.args.line.now c.args.number c.self.invariant
     (none_in a.machine a.source a.remaining _ c.self.view_is c.requires.idle) (rw c.if-is_none.false at c.is_none.ensures) c.begin-taken.ensures
-    (few_in a.machine a.source a.remaining _ c.self.view_is c.requires.count) c.requires.line
+    (few_in a.machine a.source a.remaining _ c.self.view_is c.requires.count) c.requires.line.bounded
 
 pub returns-else-is_none-clause-takes : goal.returns-else-is_none-clause-takes
 returns-else-is_none-clause-takes c =
@@ -51,12 +50,9 @@ returns-else-is_none-clause-takes c =
     let new = edge_of c.begin-taken.new.self (a.source + 1) a.remaining in
     subst (λ (r : LinesState). TakesSource (option_map line_view taken) line r.edge new) c.self.view_is
     (lend_takes a.machine c.begin-taken.new.self a.source a.remaining taken c.args.line.now c.args.number c.self.invariant
-    (none_in a.machine a.source a.remaining _ c.self.view_is c.requires.idle) (rw c.if-is_none.false at c.is_none.ensures) c.begin-taken.ensures
-    c.requires.line)
+    (none_in a.machine a.source a.remaining _ c.self.view_is c.requires.idle) (rw c.if-is_none.false at c.is_none.ensures) c.begin-taken.ensures)
 
 pub returns-else-is_none-clause-text : goal.returns-else-is_none-clause-text
 returns-else-is_none-clause-text c =
-    let a = c.self.inside in
-    lend_text a.machine c.begin-taken.new.self a.source a.remaining c.begin-taken.result c.args.line.now c.args.number c.self.invariant
-    (none_in a.machine a.source a.remaining _ c.self.view_is c.requires.idle) (rw c.if-is_none.false at c.is_none.ensures) c.begin-taken.ensures
-    c.requires.line
+    lend_text c.self.inside.machine c.begin-taken.new.self c.begin-taken.result c.args.line.now c.args.number
+    (rw c.if-is_none.false at c.is_none.ensures) c.begin-taken.ensures

@@ -1,6 +1,6 @@
 use Rattle.std.proofs.Common.{ap, refl}
 use Rattle.page_roff_source.specs.laws.Views.{RoffState}
-use Rattle.page_roff_source.proofs.LineLemmas.{begun_edge}
+use Rattle.page_roff_source.proofs.CountLemmas.{begun_edge}
 use Rattle.page_roff_source.proofs.roffs.Roff.source.Goals as goal
 
 pub returns-then-self-clause-edge : goal.returns-then-self-clause-edge

@@ -1,7 +1,7 @@
-use Rattle.page_roff_values.specs.machine.Views.{surroundings_of}
+use Rattle.page_roff_values.specs.machine.Rest.{surroundings_of}
 use Rattle.page_roff_values.specs.Values.{nothing, adds, start, expanded}
-use Rattle.page_roff_values.proofs.LayLemmas.{goes_same}
-use Rattle.page_roff_values.proofs.CopiedLemmas.{verbatim_line}
+use Rattle.page_roff_values.proofs.ArgumentLemmas.{goes_same}
+use Rattle.page_roff_values.proofs.LineLemmas.{verbatim_line}
 use Rattle.page_roff_values.proofs.expansions.Expansion.expand.Goals as goal
 
 pub returns-then-is_verbatim : goal.returns-then-is_verbatim

@@ -1,11 +1,9 @@
 use Rattle.std.proofs.Common.{◌≡◌, ◌<◌, ◌==◌, false, [], ◌∷◌, length, ◌∙◌, sym, arith, rules}
 use Rattle.std.proofs.lemmas.Bool.Decides.{nat_tests}
-use Rattle.page_roff_values.specs.machine.Views.{surroundings_of}
-use Rattle.page_roff_values.specs.machine.Rest.{rest}
+use Rattle.page_roff_values.specs.machine.Rest.{surroundings_of, rest}
 use Rattle.page_roff_values.specs.Values.{NEST, after_bytes, nothing, seq, value}
-use Rattle.page_roff_values.proofs.GoingLemmas.{begins, nest_is}
-use Rattle.page_roff_values.proofs.LayLemmas.{goes_same, goes_then}
-use Rattle.page_roff_values.proofs.LineLemmas.{plain_value}
+use Rattle.page_roff_values.proofs.LineLemmas.{begins, nest_is, plain_value}
+use Rattle.page_roff_values.proofs.ArgumentLemmas.{goes_same, goes_then}
 use Rattle.page_roff_values.proofs.expansions.Expansion.expand_more.Goals as goal
 
 pub returns : goal.returns

@@ -2,15 +2,12 @@ use Rattle.std.specs.Fmt.{decimal, signed_decimal}
 use Rattle.std.proofs.Common.{◌-◌, ◌∷◌, length, codes, arith, ap, ◌∙◌, sym, rules, refl, w32}
 use Rattle.std.proofs.lemmas.Int.{to_z-of_z}
 use Rattle.page_core_base.specs.declared.note_kinds.NoteKind.TheVariants.{Loop}
-use Rattle.page_roff_values.specs.machine.Views.{surroundings_of}
-use Rattle.page_roff_values.specs.machine.Rest.{calling, rest, room_in, steps, texts_of}
+use Rattle.page_roff_values.specs.machine.Rest.{surroundings_of, calling, rest, room_in, steps, texts_of}
 use Rattle.page_roff_values.specs.Values.{TextSoFar, nothing, seq, says, ends, counts, put, call_at, value, width}
 use Rattle.page_roff_parts.specs.machine.Verbatim.{call_of}
-use Rattle.page_roff_values.proofs.CallLemmas.{call_ends, call_deep, gives, enters, string_some, string_none, argument_some, argument_none, register_some, width_some, steps_counts, steps_later, steps_less, size_value}
-use Rattle.page_roff_values.proofs.FollowLemmas.{put_follows, put_count, width_follows, value_follows}
-use Rattle.page_roff_values.proofs.LayLemmas.{goes_on, goes_then, goes_same, going, gone, seq_ended, seq_more, seq_nothing}
-use Rattle.page_roff_values.proofs.TextLemmas.{outer_of}
-use Rattle.page_roff_values.proofs.WidthLemmas.{width_read}
+use Rattle.page_roff_values.proofs.LineLemmas.{call_ends, call_deep, gives, enters, string_some, string_none, argument_some, argument_none, register_some, width_some, steps_counts, steps_later, steps_less, size_value, put_follows, put_count, width_follows, value_follows}
+use Rattle.page_roff_values.proofs.ArgumentLemmas.{goes_on, goes_then, goes_same, going, gone, seq_ended, seq_more, seq_nothing}
+use Rattle.page_roff_values.proofs.TextLemmas.{outer_of, width_read}
 use Rattle.page_roff_values.proofs.expansions.Nested.+texts.Goals as goal
 
 -- ---- an interpolation

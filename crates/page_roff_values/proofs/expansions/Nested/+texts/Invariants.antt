@@ -1,7 +1,6 @@
 use Rattle.std.proofs.Common.{◌≡◌, ◌+◌, ◌*◌}
-use Rattle.page_roff_values.specs.machine.Views.{surroundings_of}
+use Rattle.page_roff_values.specs.machine.Rest.{surroundings_of, rest, texts_of, steps}
 use Rattle.page_roff_values.specs.laws.Views.{Goes}
-use Rattle.page_roff_values.specs.machine.Rest.{rest, texts_of, steps}
 use Rattle.page_roff_values.specs.Values.{seq, nothing}
 use Rattle.page_roff_values.proofs.expansions.Nested.+texts.Given as goal
 

@@ -1,8 +1,7 @@
 use Rattle.std.proofs.Common.{◌∙◌, ap, sym, rules}
-use Rattle.page_roff_values.specs.machine.Expansions.{NestedSpot}
-use Rattle.page_roff_values.specs.machine.Steps.{going_inside}
+use Rattle.page_roff_values.specs.machine.Rest.{NestedSpot, going_inside}
 use Rattle.page_roff_values.specs.Values.{column_of}
-use Rattle.page_roff_values.proofs.WidthLemmas.{inside_is}
+use Rattle.page_roff_values.proofs.TextLemmas.{inside_is}
 use Rattle.page_roff_values.proofs.expansions.Nested.go_inside.Goals as goal
 
 pub returns-clause-inside : goal.returns-clause-inside

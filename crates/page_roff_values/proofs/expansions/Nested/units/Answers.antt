@@ -1,9 +1,8 @@
 use Rattle.std.proofs.Common.{◌≡◌, ℕ, ◌-◌, List, length, take, drop, ap, ◌∙◌, arith, length-drop}
 use Rattle.std.proofs.lemmas.List.{take_all}
-use Rattle.page_roff_values.specs.machine.Expansions.{NestedSpot}
+use Rattle.page_roff_values.specs.machine.Rest.{NestedSpot, units_of_text}
 use Rattle.page_roff_values.specs.Values.{units_of}
-use Rattle.page_roff_values.specs.machine.Views.{units_of_text}
-use Rattle.page_roff_values.proofs.WidthLemmas.{units_known, units_none}
+use Rattle.page_roff_values.proofs.TextLemmas.{units_known, units_none}
 use Rattle.page_roff_values.proofs.expansions.Nested.units.Goals as goal
 
 -- the bytes from a place to the end

@@ -1,6 +1,6 @@
 use Rattle.std.proofs.Common.{rules, ◌≡◌, length, ap, ◌∙◌, length-append}
 use Rattle.page_roff_values.specs.declared.known_widths.KnownWidth.{KnownWidth}
-use Rattle.page_roff_values.proofs.MeasuredLemmas.{all_more, measured_last, measured_push}
+use Rattle.page_roff_values.proofs.ArgumentLemmas.{all_more, measured_last, measured_push}
 use Rattle.page_roff_values.proofs.known_widths.KnownWidths.add.Goals as goal
 
 pub invariant_of-self-clause-known : goal.invariant_of-self-clause-known

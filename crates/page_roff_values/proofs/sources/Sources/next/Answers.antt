@@ -1,7 +1,7 @@
 use Rattle.std.proofs.Common.{◌∷◌, length, arith, ap, ◌∙◌, sym, rules}
 use Rattle.page_roff_values.specs.machine.Rest.{rest}
 use Rattle.page_roff_parts.specs.machine.Verbatim.{part_of}
-use Rattle.page_roff_values.proofs.CopiedLemmas.{front_reads, same_rest}
+use Rattle.page_roff_values.proofs.LineLemmas.{front_reads, same_rest}
 use Rattle.page_roff_values.proofs.TextLemmas.{outer_of, rest_none, rest_pop, size_pop, rest_reads, shorter}
 use Rattle.page_roff_values.proofs.sources.Sources.next.Goals as goal
 
