@@ -15,7 +15,7 @@ use mandoc_formats::{
     Buffered, Done, Finds, report_fault, report_fault_at, report_unopened, shown_name,
 };
 use page_core_base::Fault;
-use page_core_streams::{Over, Target};
+use page_core_streams::{Counted, Target};
 use page_engine_index::{Query, Show, search_index, whatis};
 use std::alloc::{AllocError, Global};
 use std::io::Read;
@@ -229,7 +229,7 @@ fn give_files<I: Read, W: Target>(
     };
     search_index(
         alloc,
-        &mut Over::new(index),
+        &mut Counted::new(index),
         &mut ShownRows::new(out),
         &query,
     )

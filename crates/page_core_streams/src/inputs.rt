@@ -1,7 +1,6 @@
 //! What bytes are read from: any reader, and a source, whose calls and failures are counted.
 
 ghost use Rattle.std.specs.Prelude.{◌≡◌, ◌<◌, Bool, length};
-ghost use Rattle.std.specs.Borrow.{GName};
 ghost use Rattle.page_core_streams.specs.laws.Views.{HasReadIf};
 
 use crate::{Counted, Reading, SliceSource, Source};
@@ -41,14 +40,14 @@ impl<I: Read> Input for I {
     }
 }
 
-impl<I: Read> Input for Counted<'_, I> {
+impl<I: Input> Input for Counted<'_, I> {
     ghost use Rattle.std.specs.Prelude.{true};
     ghost use Rattle.page_core_streams.specs.Streams.{SourceState};
-    ghost use Rattle.page_core_streams.specs.laws.Views.{source_state};
+    ghost use Rattle.page_core_streams.specs.laws.Views.{state_of};
 
     ghost counts = { true };
 
-    ghost state = { λ s. source_state (I.remaining s.reader.now) s.failures s.calls s.given s.empty };
+    ghost state = { λ s. state_of I.counts (I.state s.input.now) s.failures s.calls s.given s.empty };
 
     fn read_part(&mut self, buffer: &mut [u8]) -> Reading {
         Source::read(self, buffer)
@@ -66,67 +65,5 @@ impl Input for SliceSource<'_> {
 
     fn read_part(&mut self, buffer: &mut [u8]) -> Reading {
         Source::read(self, buffer)
-    }
-}
-
-/// An input as a source: its counts are those of the input, where it counts, else its own.
-#[derive(Drop)]
-pub struct Over<'a, I> {
-    input: &'a mut I,
-    failures: u64,
-    calls: u64,
-    given: u64,
-    empty: u64,
-}
-
-impl<'a, I: Input> Over<'a, I> {
-    /// A source over an input.
-    pub fn new(input: &'a mut I) -> Over<'a, I>
-        ensures loan { result.input.ghost_name ≡ input.entry.ghost_name }
-        ensures input { result.input.now ≡ input.entry.now }
-        ensures failures { result.failures ≡ 0 }
-        ensures calls { result.calls ≡ 0 }
-        ensures given { result.given ≡ 0 }
-        ensures empty { result.empty ≡ 0 }
-    {
-        Over {
-            input,
-            failures: 0,
-            calls: 0,
-            given: 0,
-            empty: 0,
-        }
-    }
-}
-
-impl<I: Input> Source for Over<'_, I> {
-    ghost use Rattle.page_core_streams.specs.Streams.{SourceState};
-    ghost use Rattle.page_core_streams.specs.laws.Views.{state_of};
-    ghost use Rattle.std.specs.Borrow.{GName};
-
-    ghost state = { λ s. state_of I.counts (I.state s.input.now) s.failures s.calls s.given s.empty };
-
-    ghost Loans = { GName };
-
-    ghost loans = { λ s. s.input.ghost_name };
-
-    fn read(&mut self, buffer: &mut [u8]) -> Reading {
-        let given = self.given;
-        self.calls = self.calls.saturating_add(1);
-        match self.input.read_part(buffer) {
-            Reading::End => Reading::End,
-            Reading::Bytes(0) => {
-                self.empty = self.empty.saturating_add(1);
-                Reading::Bytes(0)
-            }
-            Reading::Bytes(count) => {
-                self.given = given.saturating_add(count as u64);
-                Reading::Bytes(count)
-            }
-            Reading::Failure => {
-                self.failures = self.failures.saturating_add(1);
-                Reading::Failure
-            }
-        }
     }
 }

@@ -25,7 +25,7 @@ mod writing;
 
 pub use cells::cell_bytes;
 pub use chunks::Chunks;
-pub use inputs::{Input, Over};
+pub use inputs::Input;
 pub use kept::{KeptNotes, KeptRows, Row};
 pub use message_bytes::write_note;
 pub use sources::{BYTES, Counted, READS, Reading, SliceSource, Source};

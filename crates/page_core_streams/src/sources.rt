@@ -5,7 +5,7 @@ ghost use Rattle.std.specs.Borrow.{GName};
 ghost use Rattle.page_core_streams.specs.Streams.{SourceState};
 ghost use Rattle.page_core_streams.specs.laws.Views.{HasRead};
 
-use std::io::{ErrorKind, Read};
+use crate::inputs::Input;
 
 /// The bytes of a page or an index at most.
 pub const BYTES: u32 = 2_147_483_647;
@@ -42,28 +42,28 @@ pub trait Source {
         ensures same { loans self.new ≡ loans self.old };
 }
 
-/// A reader as a source: counts its calls, its failures, its bytes and its empty calls, each up to 2^64 - 1.
+/// A reader as a source: counts its calls, its failures, its bytes and its empty calls, each up to 2^64 - 1. Of an input that counts, those are its counts.
 #[derive(Drop)]
 pub struct Counted<'a, I> {
-    reader: &'a mut I,
+    input: &'a mut I,
     failures: u64,
     calls: u64,
     given: u64,
     empty: u64,
 }
 
-impl<'a, I: Read> Counted<'a, I> {
-    /// A source over a reader.
-    pub fn new(reader: &'a mut I) -> Counted<'a, I>
-        ensures loan { result.reader.ghost_name ≡ reader.entry.ghost_name }
-        ensures reader { result.reader.now ≡ reader.entry.now }
+impl<'a, I: Input> Counted<'a, I> {
+    /// A source over an input, such as a reader.
+    pub fn new(input: &'a mut I) -> Counted<'a, I>
+        ensures loan { result.input.ghost_name ≡ input.entry.ghost_name }
+        ensures input { result.input.now ≡ input.entry.now }
         ensures failures { result.failures ≡ 0 }
         ensures calls { result.calls ≡ 0 }
         ensures given { result.given ≡ 0 }
         ensures empty { result.empty ≡ 0 }
     {
         Counted {
-            reader,
+            input,
             failures: 0,
             calls: 0,
             given: 0,
@@ -72,31 +72,31 @@ impl<'a, I: Read> Counted<'a, I> {
     }
 }
 
-impl<I: Read> Source for Counted<'_, I> {
+impl<I: Input> Source for Counted<'_, I> {
     ghost use Rattle.page_core_streams.specs.Streams.{SourceState};
-    ghost use Rattle.page_core_streams.specs.laws.Views.{source_state};
+    ghost use Rattle.page_core_streams.specs.laws.Views.{state_of};
     ghost use Rattle.std.specs.Borrow.{GName};
 
-    ghost state = { λ s. source_state (I.remaining s.reader.now) s.failures s.calls s.given s.empty };
+    ghost state = { λ s. state_of I.counts (I.state s.input.now) s.failures s.calls s.given s.empty };
 
     ghost Loans = { GName };
 
-    ghost loans = { λ s. s.reader.ghost_name };
+    ghost loans = { λ s. s.input.ghost_name };
 
     fn read(&mut self, buffer: &mut [u8]) -> Reading {
         let given = self.given;
         self.calls = self.calls.saturating_add(1);
-        match self.reader.read(buffer) {
-            Ok(0) => Reading::End,
-            Ok(count) => {
-                self.given = given.saturating_add(count as u64);
-                Reading::Bytes(count)
-            }
-            Err(error) if error.kind() == ErrorKind::Interrupted => {
+        match self.input.read_part(buffer) {
+            Reading::End => Reading::End,
+            Reading::Bytes(0) => {
                 self.empty = self.empty.saturating_add(1);
                 Reading::Bytes(0)
             }
-            Err(_) => {
+            Reading::Bytes(count) => {
+                self.given = given.saturating_add(count as u64);
+                Reading::Bytes(count)
+            }
+            Reading::Failure => {
                 self.failures = self.failures.saturating_add(1);
                 Reading::Failure
             }

@@ -15,7 +15,7 @@ ghost use Rattle.page_engine.specs.machine.Steps.{CanTake, TakesPart, TakesChunk
 
 use crate::pages::Page;
 use page_core_base::{Fault, Level, NoteSink, RowSink, Settings};
-use page_core_streams::{Chunks, Input, Over, SliceSource, Source, Target, TextNotes, TextRows};
+use page_core_streams::{Chunks, Counted, Input, SliceSource, Source, Target, TextNotes, TextRows};
 use page_roff_lines::Cutter;
 use page_roff_source::Counts;
 use std::alloc::Global;
@@ -260,7 +260,7 @@ pub fn run_page<I: Input, W: Target, V: Target>(
         (record { to = writers W.contents V.contents file.now; rows_failed = W.failures; notes_failed = V.failures })
         (I.state reader.old) (I.state reader.new) out.old out.new notes.old notes.new settings.now bytes }
 {
-    let mut source = Over::new(reader);
+    let mut source = Counted::new(reader);
     let mut rows = TextRows::new(out);
     let mut messages = TextNotes::new(notes, file);
     run_sinks(alloc, &mut source, &mut rows, &mut messages, settings)

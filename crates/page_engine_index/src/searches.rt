@@ -12,7 +12,7 @@ use crate::line_sinks::{LineSink, TextLines};
 use crate::queries::{Query, Show};
 use memchr::memchr;
 use page_core_base::{BoundedText, Fault, LINE};
-use page_core_streams::{Chunks, Input, Over, Source, Target};
+use page_core_streams::{Chunks, Counted, Input, Source, Target};
 use std::alloc::Global;
 
 // A search: how far the index was read, the line that is open, and the rows that were given.
@@ -203,7 +203,7 @@ pub fn whatis<I: Input, W: Target>(
         × SearchesOver result (counting (written W.contents) W.failures) (I.state index.old) (I.state index.new)
         out.old out.new (asked words.now section.entry show) bytes }
 {
-    let mut source = Over::new(index);
+    let mut source = Counted::new(index);
     let mut lines = TextLines::new(out);
     let query = Query {
         words,

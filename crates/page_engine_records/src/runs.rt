@@ -16,7 +16,7 @@ use crate::name_readers::{NameReader, Side};
 use crate::names::record_of;
 use crate::texts::NAMES;
 use page_core_base::{BoundedText, Fault, Output, PieceLatch, PieceSink, Place, Settings};
-use page_core_streams::{Chunks, Input, Over, Source};
+use page_core_streams::{Chunks, Counted, Input, Source};
 use page_engine_header::Part;
 use page_engine_index::Record;
 use page_roff_lines::Cutter;
@@ -211,6 +211,6 @@ pub fn name_record<I: Input>(
     ensures causes { I.counts ≡ true → (bytes : List ℕ)
         × ReadsRecordOver result (I.state reader.old) (I.state reader.new) settings.now bytes }
 {
-    let mut source = Over::new(reader);
+    let mut source = Counted::new(reader);
     read_record(alloc, &mut source, settings)
 }

@@ -3,7 +3,7 @@ use Rattle.std.proofs.Common.{◌≡◌, ℕ, zero, suc, ◌+◌, ◌<◌, ◌�
 use Rattle.std.proofs.lemmas.Bool.{eqb-true}
 use Rattle.page_core_base.specs.declared.limits.TheConstants.{ARGS}
 use Rattle.page_roff_values.specs.Values.{begin_first, arguments_in, argument_at, spaced, spaced_quoted, TextSoFar, LaidText, nothing, join, unless, seq}
-use Rattle.page_roff_values.specs.machine.Rest.{AreHeld, units_of_text, AreMeasured, IsMeasured, text_of}
+use Rattle.page_roff_values.specs.machine.Held.{AreHeld, units_of_text, AreMeasured, IsMeasured, text_of}
 use Rattle.page_core_base.specs.Messages.{Message}
 use Rattle.page_roff_values.specs.laws.Views.{Goes}
 use Rattle.std.specs.Str.{IsUtf8}

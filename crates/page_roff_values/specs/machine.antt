@@ -1,2 +1,3 @@
 -- The code's own steps and fast ways. Trust needs no reading of them.
+pub mod Held
 pub mod Rest

@@ -25,7 +25,7 @@ impl Model for CallArguments {
     ghost use Rattle.std.specs.Prelude.{ℕ, List, Option, Some, None, ◌≡◌, if◌then◌else◌};
     ghost use Rattle.std.specs.Vec.{vec_capacity};
     ghost use Rattle.page_roff_values.specs.Values.{arguments_in};
-    ghost use Rattle.page_roff_values.specs.machine.Rest.{AreHeld};
+    ghost use Rattle.page_roff_values.specs.machine.Held.{AreHeld};
 
     ghost Value = { Option (List (List ℕ)) };
 

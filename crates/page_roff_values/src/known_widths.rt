@@ -4,7 +4,7 @@
 ghost use Rattle.std.specs.Prelude.{◌≡◌, ◌+◌, ◌-◌, ◌*◌, ◌<◌, ◌≤◌, length, vec_capacity, take, drop, IfSome, IsTrue};
 ghost use Rattle.page_core_base.specs.declared.limits.TheConstants.{LINE};
 ghost use Rattle.page_roff_values.specs.declared.known_widths.TheConstants.{TEXTS, WIDTHS};
-ghost use Rattle.page_roff_values.specs.machine.Rest.{AreMeasured, IsMeasured, units_of_text};
+ghost use Rattle.page_roff_values.specs.machine.Held.{AreMeasured, IsMeasured, units_of_text};
 ghost use Rattle.page_roff_values.specs.Values.{units_of};
 
 use crate::fronts::{common_len, read_front};

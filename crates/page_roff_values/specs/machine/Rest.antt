@@ -1,21 +1,16 @@
 -- How the code holds a line, inside widths too: the code's own form of it. Trust needs no reading of it.
-use Rattle.std.specs.Prelude.{ℕ, ◌+◌, ◌*◌, ◌^◌, ◌≤◌, List, [], length, take, drop, ◌≡◌, ◌-◌, true, suc, false, ◌∷◌, map, reverse, Bool, Option, MatchOption, ◌++◌}
+use Rattle.std.specs.Prelude.{ℕ, ◌+◌, ◌*◌, ◌^◌, ◌≤◌, List, [], length, take, drop, ◌≡◌, suc, ◌-◌, false, ◌∷◌, map, reverse, Bool, Option, MatchOption, ◌++◌}
 use Rattle.std.specs.Vec.{vec_capacity}
-use Rattle.page_core_base.specs.Limits.{LINE, ARGS, EXPAND}
+use Rattle.page_core_base.specs.Limits.{LINE, EXPAND}
 use Rattle.page_core_base.specs.laws.Views.{NEST}
 use Rattle.page_roff_values.specs.declared.expansions.Nested.TheInside.{Inside}
-use Rattle.page_roff_values.specs.Values.{TextSoFar, arguments_in, spaced, spaced_quoted, units_of, Surroundings, LaidText, nothing, seq, put, call_at, value, finished_len, inside, adds, start, expanded}
-use Rattle.std.specs.List.{All}
-use Rattle.std.specs.Str.{is_utf8}
-use Rattle.page_roff_values.specs.declared.known_widths.KnownWidth.{KnownWidth}
+use Rattle.page_roff_values.specs.Values.{TextSoFar, Surroundings, LaidText, nothing, seq, put, call_at, value, finished_len, inside, adds, start, expanded, units_of}
 use Rattle.std.specs.Borrow.{Bor}
 use Rattle.page_roff_parts.specs.declared.parts.Call.{Call}
 use Rattle.page_roff_parts.specs.declared.parts.Part.{Part}
 use Rattle.page_roff_parts.specs.declared.parts.Part.TheVariants.{Copied, Called}
 use Rattle.page_roff_values.specs.declared.sources.Sources.{Sources}
-use Rattle.page_roff_parts.specs.machine.Verbatim.{part_of}
-use Rattle.page_core_base.specs.declared.page_settings.Output.{Output}
-use Rattle.page_core_numbers.specs.Columns.{columns_of}
+use Rattle.page_roff_parts.specs.machine.Views.{part_of}
 use Rattle.page_roff_values.specs.declared.environments.Environment.{Environment}
 
 -- a line so far, or the text of a width, and what is finished of those that it is inside of, one after another
@@ -48,33 +43,6 @@ pub record IsHeld (a : Inside) : Type 0 where
   pub outside : a.start ≤ LINE * NEST
   pub room : LINE * (NEST + 1) ≤ vec_capacity a.text
   pub bytes_before : a.bytes_before ≤ 2 ^ 31
-
--- ---- How the code holds the arguments of a macro: the code's own form of them. Trust needs no reading of it.
-
--- the count of the arguments, their bytes, and the texts of all, each with the memory for it
-pub record AreHeld (count : ℕ) (packed spaced_text quoted_text : List ℕ) (packed_room spaced_room quoted_room : ℕ) : Type 0 where
-  pub counted : count ≡ length (arguments_in packed)
-  pub short : length packed ≤ ARGS
-  pub joined : spaced_text ≡ spaced (arguments_in packed)
-  pub quoted : quoted_text ≡ spaced_quoted (arguments_in packed)
-  pub packed_fits : ARGS ≤ packed_room
-  pub joined_fits : ARGS + 1 ≤ spaced_room
-  pub quoted_fits : 3 * (ARGS + 1) ≤ quoted_room
-
--- ---- A fast way of the code, which no public clause cites: texts that are remembered with their widths. Trust needs no reading of it.
-
--- the text of a width
-abbrev pub text_of : List ℕ → KnownWidth → List ℕ
-text_of texts width = take (width.end - width.start) (drop width.start texts)
-
--- the text between two places of these texts is no longer than a line, it is in UTF-8, and it has these units in this output
-abbrev pub IsMeasured : List ℕ → KnownWidth → Type 0
-IsMeasured texts width =
-    (width.start ≤ width.end) × (width.end ≤ length texts) × (width.units ≡ units_of width.output (text_of texts width))
-    × (width.end ≤ width.start + LINE) × (is_utf8 (text_of texts width) ≡ true) × (width.units ≤ 24000 * (width.end - width.start))
-
-abbrev pub AreMeasured : List ℕ → List KnownWidth → Type 0
-AreMeasured texts widths = All (IsMeasured texts) widths
 
 -- ---- What is still to be laid of the texts that are being read: the code's own steps. Trust needs no reading of it.
 
@@ -143,10 +111,6 @@ abbrev pub GivesItself : List ℕ → Type 0
 GivesItself text = (env : Surroundings) (line : ℕ) → env.copy ≡ false → expanded env line text ≡ nothing (adds text (start line))
 
 -- ---- How the code's values are seen. Trust needs no reading of it.
-
--- of a text
-abbrev pub units_of_text : Output → List ℕ → ℕ
-units_of_text output text = 24 * columns_of output text
 
 abbrev pub surroundings_of : Environment → Surroundings
 surroundings_of e =

@@ -1,6 +1,7 @@
 use Rattle.std.proofs.Common.{◌≡◌, ℕ, ◌-◌, List, length, take, drop, ap, ◌∙◌, arith, length-drop}
 use Rattle.std.proofs.lemmas.List.{take_all}
-use Rattle.page_roff_values.specs.machine.Rest.{NestedSpot, units_of_text}
+use Rattle.page_roff_values.specs.machine.Held.{units_of_text}
+use Rattle.page_roff_values.specs.machine.Rest.{NestedSpot}
 use Rattle.page_roff_values.specs.Values.{units_of}
 use Rattle.page_roff_values.proofs.TextLemmas.{units_known, units_none}
 use Rattle.page_roff_values.proofs.expansions.Nested.units.Goals as goal

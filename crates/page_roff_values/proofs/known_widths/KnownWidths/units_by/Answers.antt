@@ -1,6 +1,6 @@
 use Rattle.std.proofs.Common.{rules, ◌≡◌}
 use Rattle.page_core_numbers.specs.machine.Signs.{Left}
-use Rattle.page_roff_values.specs.machine.Rest.{units_of_text}
+use Rattle.page_roff_values.specs.machine.Held.{units_of_text}
 use Rattle.page_roff_values.proofs.ArgumentLemmas.{units_alike}
 use Rattle.page_roff_values.proofs.known_widths.KnownWidths.units_by.Goals as goal
 
