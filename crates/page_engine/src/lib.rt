@@ -1,8 +1,7 @@
 //! A page from its bytes to its rows and messages, and the page itself, whose lines come one by one.
 //!
 //! It is above all layers: each line goes through roff and the macros (`page_engine_lines`), and what they give is filled (`page_fill`). Below it
-//! are the lines of the bytes (`page_roff_lines`), above it the program. It gives out the calls on records and indexes (`page_engine_records`,
-//! `page_engine_index`), too.
+//! are the lines of the bytes (`page_roff_lines`), above it the program. It gives out the calls on indexes (`page_engine_index`), too.
 //!
 //! Read first `run_page` and `run_sinks` in `runs.rt`, with `specs/Runs.antt`; then `pages.rt`, with `specs/Page.antt` and `specs/laws/States.antt`.
 //!
@@ -29,7 +28,6 @@ pub use page_core_streams::{
     BYTES, Counted, CountedWriter, Input, READS, Reading, SliceSource, Source, Target,
 };
 pub use page_engine_index::{Record, Show, Text, is_field, whatis, write_record};
-pub use page_engine_records::name_record;
 pub use page_roff_source::Counts;
 pub use pages::{LINES, Page, Phase};
 pub use runs::{Outcome, run_bytes, run_page, run_sinks};

@@ -6,7 +6,8 @@ ghost use Rattle.std.specs.Prelude.{◌≡◌, Err, OnErr};
 
 use page_core_base::{Fault, Note, Settings};
 use page_core_streams::{Nowhere, write_note};
-use page_engine::{Outcome, Record, Show, SliceSource, name_record, run_bytes, run_page, whatis};
+use page_engine::{Outcome, Record, Show, SliceSource, run_bytes, run_page, whatis};
+use page_engine_records::name_record;
 use std::alloc::Global;
 use std::io::{Read, Write};
 
