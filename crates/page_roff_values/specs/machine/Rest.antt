@@ -10,7 +10,7 @@ use Rattle.page_roff_parts.specs.declared.parts.Call.{Call}
 use Rattle.page_roff_parts.specs.declared.parts.Part.{Part}
 use Rattle.page_roff_parts.specs.declared.parts.Part.TheVariants.{Copied, Called}
 use Rattle.page_roff_values.specs.declared.sources.Sources.{Sources}
-use Rattle.page_roff_parts.specs.machine.Views.{part_of}
+use Rattle.page_roff_parts.specs.machine.Verbatim.{part_of}
 use Rattle.page_roff_values.specs.declared.environments.Environment.{Environment}
 
 -- a line so far, or the text of a width, and what is finished of those that it is inside of, one after another
