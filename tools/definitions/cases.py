@@ -160,8 +160,9 @@ class Search(Case):
         })
         found = pages.program.function("Rattle.page_engine_index.specs.Entries", "index")(values.onto(index.encode(), None))
         rows = values.items(pages.program.function("Rattle.page_engine_index.specs.Whatis", "rows")(query, found.of_entries))
+        visible = pages.program.function("Rattle.page_engine_index.specs.Written", "visible")
         bad = found.of_bad.arguments
-        return "".join(map(text_in, rows)) + (f"-- line {bad[0]}: bad index\n" if bad else f"-- {len(rows)} rows\n")
+        return "".join(text_in(visible(row)) for row in rows) + (f"-- line {bad[0]}: bad index\n" if bad else f"-- {len(rows)} rows\n")
 
 
 def text_in(cells):
