@@ -11,7 +11,6 @@ use Rattle.page_scopes.specs.declared.layouts.LayoutState.{LayoutState}
 use Rattle.page_scopes_labels.specs.declared.labels.Label.{Label}
 use Rattle.page_scopes_tree.specs.laws.Views as oldsteps
 use Rattle.page_scopes_tree.specs.machine.Nestings.{act, Beside}
-use Rattle.page_scopes_tree.specs.machine.Nestings as forests
 use Rattle.page_scopes_tree.specs.machine.Nestings as lays
 use Rattle.page_scopes_tree.specs.machine.Stacks.{refused}
 use Rattle.page_scopes_tree.specs.declared.nestings.Scope.{Scope}
@@ -22,8 +21,8 @@ OldState = Beside HeaderEdge LayoutState
 abbrev to : BodyState → OldState
 to s = record { own = s.header; rest = s.layout }
 
-abbrev by : PageAct → forests.Ender A
-by a = forests.by_act (act (oldsteps.does a))
+abbrev by : PageAct → lays.Ender A
+by a = lays.by_act (act (oldsteps.does a))
 
 abbrev Scopes : Type 0
 Scopes = List (Scope Label Kept)
@@ -161,7 +160,7 @@ module _ (b : BodyEdge) (steps : List Step) where
   abbrev l : LaidForest
   l = lay r.here at_first
 
-  r_law : forests.tree body_nesting b.scopes.mode (map (λ (scope : Scope Label Kept). scope.label) b.scopes.scopes) (map as_act steps) ≡ rest_old r
+  r_law : lays.tree body_nesting b.scopes.mode (map (λ (scope : Scope Label Kept). scope.label) b.scopes.scopes) (map as_act steps) ≡ rest_old r
   r_law = tree_law steps b.scopes.mode (map (λ scope. scope.label) b.scopes.scopes)
 
   r_proper : Proper r.outer

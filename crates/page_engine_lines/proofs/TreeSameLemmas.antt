@@ -29,7 +29,6 @@ use Rattle.page_scopes_tree.specs.Ends.{event_of, act_ends}
 use Rattle.page_scopes_tree.specs.laws.Views as oldsteps
 use Rattle.page_scopes_tree.specs.machine.Nestings.{With, act, aside, stands_with, as_nothing, inside}
 use Rattle.page_scopes_tree.specs.machine.Nestings as old
-use Rattle.page_scopes_tree.specs.machine.Nestings as lays
 use Rattle.page_scopes_tree.specs.machine.Stacks.{Fact, coming, standing, refused, standing_by}
 use Rattle.page_scopes_tree.specs.Placements.{act_placement, act_skips, closer_skips, is_passed_over}
 use Rattle.page_scopes_tree.specs.declared.acts.Act.TheVariants as acts
@@ -308,7 +307,7 @@ placed_skips a (placements.Refused obstacle) nodes k = refl
 placed_skips a placements.Nothing nodes k = refl
 
 abbrev old_mode : Bool → List Label → List Step → Bool
-old_mode skips nodes steps = lays.mode_after body_nesting skips nodes (map as_act steps)
+old_mode skips nodes steps = old.mode_after body_nesting skips nodes (map as_act steps)
 
 does_mode : (p skips : Bool) (a : PageAct) (nodes : List Label) (steps : List Step) → is_passed_over skips a ≡ p
     → ((s : Bool) (x : List Label) → old_mode s x steps ≡ (tree s x steps).skips)

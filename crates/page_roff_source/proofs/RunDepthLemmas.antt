@@ -9,7 +9,6 @@ use Rattle.page_roff_blocks.specs.machine.Steps as old
 use Rattle.page_roff_blocks.specs.machine.Steps.{Meaning, step, step_lines, each_line}
 use Rattle.page_roff_blocks.specs.machine.Languages as langs
 use Rattle.page_roff_blocks.specs.machine.Languages.{Kind, page, body, inner, arguments_of, is_some, state_of, Language, TURNS, run_if, finish_at, Effects, language, with_rest, charge, charge_by, done_with, closed_with, turn_by, unopened_by, collect_some}
-use Rattle.page_roff_blocks.specs.machine.Languages as budgets
 use Rattle.page_roff_effects.specs.machine.Acting as effs
 use Rattle.page_roff_effects.specs.States.{end_of_block_outcome, Memory, PartOutcome, Product, no_product, line_product, call_product, loop_product}
 use Rattle.page_roff_effects.specs.machine.Acting.{effects, done_after, setting_of, tested_after}
@@ -50,8 +49,8 @@ module _ (units : List ℕ → ℕ) where
   unfolding fields
   reread_law b = charge_fields b.left b.gave_up b.taken b.rest
 
-  meets_law : (begun : Bool) (b : Old) → meets_new begun (new b) ≡ named (budgets.meet e begun b)
-  unfolding budgets.meet budgets.whether_run
+  meets_law : (begun : Bool) (b : Old) → meets_new begun (new b) ≡ named (langs.meet e begun b)
+  unfolding langs.meet langs.whether_run
   meets_law false b = refl
   meets_law true b = ap (λ t. (not t.gave_up, t)) (reread_law b)
 
@@ -106,7 +105,7 @@ module _ (units : List ℕ → ℕ) where
   unopened_body args false b = refl
 
   body_alike : (depth : ℕ) (args : Option (List (List ℕ))) → DoesSo depth (body args) → Alike (λ t. t) (λ text. reread) (λ text b. b) (around depth args) (inside depth (body args))
-  unfolding langs.meaning_by language budgets.meaning budgets.begin_line budgets.test budgets.read_line budgets.end_line test after with_rest effects tested_after
+  unfolding langs.meaning_by language langs.meaning langs.begin_line langs.test langs.read_line langs.end_line test after with_rest effects tested_after
   body_alike depth args so = record {
     begins = λ x b. reread_law b;
     meets = λ begun b. meets_law begun b;
@@ -170,7 +169,7 @@ module _ (units : List ℕ → ℕ) where
     turn_by_law n further false b = let v = e.turns (body args) condition b.rest in turn_run n further v.0 (with_rest e b v.1)
 
     turns_law : (n : ℕ) → Turns n
-    unfolding runs.turns langs.turns language budgets.turn
+    unfolding runs.turns langs.turns language langs.turn
     turns_law zero b = refl
     turns_law (suc n) b =
         ap (λ t. if t.gave_up then t else turn_after n (test (around depth args) (condition_of 1 condition) t)) (reread_law b)
@@ -198,7 +197,7 @@ module _ (units : List ℕ → ℕ) where
   on_page = record { is_page = true; setting = record { units = units; arguments = None }; may_run = true; calls = runs_at units CALLS None }
 
   page_alike : Alike (λ x. x.text) page_line head_of on_page (langs.meaning_at lang CALLS page)
-  unfolding langs.meaning_at langs.meaning_by language budgets.meaning budgets.begin_line budgets.test budgets.read_line budgets.end_line test after
+  unfolding langs.meaning_at langs.meaning_by language langs.meaning langs.begin_line langs.test langs.read_line langs.end_line test after
       with_rest effects tested_after unopened_by page_line is_some
   page_alike = record {
     begins = λ x b. refl;

@@ -17,7 +17,6 @@ use Rattle.page_roff_blocks.specs.laws.Views.{BlockCursor, at_line, after_part, 
 use Rattle.page_roff_blocks.specs.Parts.{loop_text, line_parts}
 use Rattle.page_roff_blocks.specs.machine.Steps as old
 use Rattle.page_roff_blocks.specs.machine.Steps.{Meaning, met, step_leaf, step_guard, guard_met, guard_with, step_block, block_met, opening_met, block_with, step_loop, step_end, step_parts, step_inside, step_from, begin_line, collect_if, each_line}
-use Rattle.page_roff_blocks.specs.machine.Steps as steps
 use Rattle.page_roff_blocks.specs.machine.Languages.{Budgeted}
 use Rattle.page_roff_syntax.specs.declared.region_heads.RegionHead.{RegionHead}
 use Rattle.page_roff_syntax.specs.Regions.{Opened, opened, end_name, is_ending}
@@ -261,7 +260,7 @@ module _ {X : Type 0} (text : X → List ℕ) (start : X → State → State) (h
 
   parts_law : (parts : List (LinePart (List ℕ))) (xs : List X) (c : BlockCursor) (b : Old)
       → run_source a text start (line_of parts (source_of text xs) (inside_of text xs)) (spot c b) ≡ from xs (step_parts m parts c b)
-  unfolding line_of step_parts run_from run run_source steps.step_region opened
+  unfolding line_of step_parts run_from run run_source old.step_region opened
   parts_law [] xs c b = steady xs (spot c b)
   parts_law (Leaf t ∷ rest) xs c b =
       let src = line_of rest (source_of text xs) (inside_of text xs) in
@@ -324,6 +323,6 @@ module _ {X : Type 0} (text : X → List ℕ) (start : X → State → State) (h
 
   -- lines, from where they begin
   pub lines_law : (xs : List X) (p : old.At Old) → run_lines a text start xs (at p) ≡ at (each_line m text head xs p)
-  unfolding each_line steps.step
+  unfolding each_line old.step
   lines_law [] p = no_line p.place.region p.place.levels (new p.state)
-  lines_law (x ∷ xs) p = line_law x xs p.place.region p.place.levels p.state ∙ lines_law xs (steps.step m (text x) (steps.after_head m text head x p))
+  lines_law (x ∷ xs) p = line_law x xs p.place.region p.place.levels p.state ∙ lines_law xs (old.step m (text x) (old.after_head m text head x p))
