@@ -53,7 +53,7 @@ impl<R: RowSink, N: NoteSink> NoteSink for PageSink<'_, '_, '_, R, N> {
         (filter-whole N.gave N.within N.whole (λ s. s.notes.now) (λ s. s.least) (λ s. s.worst))
         (λ s. s.filler.now) (λ s. s.rows) (λ s. s.notes) };
 
-    #[tactic(auto, unfolding(page_fill::specs::machine::ByPiece::laid_items))]
+    #[tactic(auto, unfolding(page_fill::specs::machine::Words::laid_items))]
     fn note(&mut self, note: &Note) -> Result<(), Fault> {
         self.notes.note(note)
     }
@@ -94,7 +94,7 @@ impl<R: RowSink, N: NoteSink> PieceSink for PageSink<'_, '_, '_, R, N> {
 
     // The filler's own `piece` is inlined, so that a piece of a known kind costs no copy and no match.
     #[inline(always)]
-    #[tactic(auto, unfolding(page_fill::specs::machine::ByPiece::laid_items))]
+    #[tactic(auto, unfolding(page_fill::specs::machine::Words::laid_items))]
     fn piece(&mut self, piece: Piece<&[u8]>) -> Result<(), Fault> {
         self.filler.piece(piece, &mut self.rows, &mut self.notes)
     }

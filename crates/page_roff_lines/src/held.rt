@@ -68,7 +68,7 @@ impl HeldText {
     }
 
     /// Appends a byte.
-    #[tactic(auto, unfolding(crate::specs::machine::Held::extend))]
+    #[tactic(auto, unfolding(crate::specs::machine::Open::extend))]
     pub fn push(&mut self, byte: u8)
         requires { self.old.total < 2 ^ 31 }
         ensures { self.new ≡ extend self.old (byte ∷ []) }
@@ -83,7 +83,7 @@ impl HeldText {
 
     /// Appends bytes, which may be known to be printable.
     #[inline(always)]
-    #[tactic(auto, unfolding(crate::specs::machine::Held::extend))]
+    #[tactic(auto, unfolding(crate::specs::machine::Open::extend))]
     pub fn extend(&mut self, more: &[u8], printable: bool)
         requires total { self.old.total + length more.now < 2 ^ 31 }
         requires printable { printable ≡ true → list_all is_printable more.now ≡ true }
@@ -99,7 +99,7 @@ impl HeldText {
 
     /// Takes printable bytes in the place of all, which may be known to be free.
     #[inline(always)]
-    #[tactic(auto, unfolding(crate::specs::machine::Held::extend))]
+    #[tactic(auto, unfolding(crate::specs::machine::Open::extend))]
     pub fn set(&mut self, text: &[u8], free: bool)
         requires total { length text.now < 2 ^ 31 }
         requires printable { list_all is_printable text.now ≡ true }
@@ -129,7 +129,7 @@ impl HeldText {
     }
 
     /// Takes the last byte away.
-    #[tactic(auto, unfolding(crate::specs::machine::Held::shorten))]
+    #[tactic(auto, unfolding(crate::specs::machine::Open::shorten))]
     pub fn shorten(&mut self)
         ensures { self.new ≡ shorten self.old }
     {

@@ -41,7 +41,7 @@ pub struct OpenLine {
 
 impl Model for OpenLine {
     ghost use Rattle.std.specs.Prelude.{◌≤◌, ◌<◌, ◌+◌, ◌^◌};
-    ghost use Rattle.page_roff_lines.specs.machine.Open.{Open, mark_after, ends_mark, is_settled, first_open, restart, put, put_plain, put_pair, put_in, without_return, newline_in, put_newline, next_open, end_open, count_byte, close, open_after, whole_lines, kept_of, is_marked, IsFine, IsRead, ReadsText, with_run};
+    ghost use Rattle.page_roff_lines.specs.machine.Open.{Open};
 
     ghost Value = { Open };
 
@@ -62,6 +62,8 @@ impl Model for OpenLine {
 }
 
 impl Mark {
+    ghost use Rattle.page_roff_lines.specs.machine.Open.{mark_after, ends_mark, is_settled};
+
     // How much of the mark came with this byte.
     #[tactic(auto, unfolding(crate::specs::machine::Open::mark_after))]
     fn after(self, byte: u8) -> Mark
@@ -108,7 +110,9 @@ fn pair_mode(byte: u8) -> Mode
 }
 
 impl OpenLine {
+    ghost use Rattle.page_roff_lines.specs.machine.Open.{first_open, restart, put, put_plain, put_pair, put_in, without_return, newline_in, put_newline, next_open, end_open, count_byte, close, ends_mark, open_after, whole_lines, kept_of, is_marked};
     ghost use Rattle.page_roff_lines.specs.laws.Views.{newline};
+    ghost use Rattle.page_roff_lines.specs.machine.Open.{IsFine, IsRead, ReadsText, with_run};
 
     /// Before the first byte of a page, with the memory that it will ever hold.
     pub fn new(alloc: Global) -> Result<OpenLine, AllocError>
@@ -142,7 +146,7 @@ impl OpenLine {
     }
 
     // Appends a byte, and says how the next one is read.
-    #[tactic(auto, unfolding(crate::specs::machine::Open::put, crate::specs::machine::Held::extend))]
+    #[tactic(auto, unfolding(crate::specs::machine::Open::put, crate::specs::machine::Open::extend))]
     fn put(&mut self, byte: u8, mode: Mode)
         requires { self.old.text.total < self.old.consumed }
         ensures { self.new ≡ put self.old byte mode }
@@ -167,7 +171,7 @@ impl OpenLine {
     }
 
     // Reads the byte after a backslash: a hash drops both and what follows.
-    #[tactic(auto, unfolding(crate::specs::machine::Open::put_pair, crate::specs::machine::Held::shorten))]
+    #[tactic(auto, unfolding(crate::specs::machine::Open::put_pair, crate::specs::machine::Open::shorten))]
     fn put_pair(&mut self, byte: u8)
         requires { self.old.text.total < self.old.consumed }
         ensures { self.new ≡ put_pair self.old byte }
@@ -212,7 +216,7 @@ impl OpenLine {
     }
 
     // Takes away a carriage return right before the line feed.
-    #[tactic(auto, unfolding(crate::specs::machine::Open::without_return, crate::specs::machine::Held::shorten))]
+    #[tactic(auto, unfolding(crate::specs::machine::Open::without_return, crate::specs::machine::Open::shorten))]
     fn drop_return(&mut self)
         ensures { self.new ≡ without_return self.old }
     {
@@ -223,7 +227,7 @@ impl OpenLine {
     }
 
     // Ends the physical line: the logical one with it, or it waits for what is joined.
-    #[tactic(auto, unfolding(crate::specs::machine::Open::newline_in, crate::specs::machine::Held::shorten))]
+    #[tactic(auto, unfolding(crate::specs::machine::Open::newline_in, crate::specs::machine::Open::shorten))]
     fn end_physical(&mut self)
         ensures { self.new ≡ newline_in self.old.mode self.old }
     {
@@ -306,7 +310,7 @@ impl OpenLine {
     }
 
     // Appends bytes that are read at once, which may be known to be printable.
-    #[tactic(auto, unfolding(crate::specs::machine::Run::run_in, crate::specs::machine::Held::extend))]
+    #[tactic(auto, unfolding(crate::specs::machine::Open::run_in, crate::specs::machine::Open::extend))]
     fn put_run(&mut self, run: &[u8], printable: bool)
         requires consumed { self.old.consumed + length run.now < 2 ^ 31 }
         requires some { 0 < length run.now }
@@ -348,7 +352,7 @@ impl OpenLine {
 
     // Takes a text that was read at once, which may be known to be free, with the line feed after it, as the line after a whole one.
     #[inline(always)]
-    #[tactic(auto, unfolding(crate::specs::machine::Held::extend))]
+    #[tactic(auto, unfolding(crate::specs::machine::Open::extend))]
     fn put_line(&mut self, text: &[u8], free: bool)
         requires whole { self.old.whole ≡ true }
         requires reads { ReadsText self.old }
@@ -439,7 +443,7 @@ impl OpenLine {
     }
 
     /// Ends the page; whether a last line is there.
-    #[tactic(auto, unfolding(crate::specs::machine::Open::end_open, crate::specs::machine::Open::end_in, crate::specs::machine::Open::restart, crate::specs::machine::Open::close, crate::specs::machine::Held::shorten))]
+    #[tactic(auto, unfolding(crate::specs::machine::Open::end_open, crate::specs::machine::Open::end_in, crate::specs::machine::Open::restart, crate::specs::machine::Open::close, crate::specs::machine::Open::shorten))]
     pub fn end(&mut self) -> bool
         ensures after { self.new ≡ end_open self.old }
         ensures line { result ≡ self.new.whole }
