@@ -24,7 +24,7 @@ use Rattle.page_core_base.specs.declared.page_settings.Output.{Output}
 use Rattle.page_engine_lines.specs.Edges.{LinesEdge}
 use Rattle.page_engine.specs.laws.Views.{FilterGave, FilterWithin, ShownGave, ShownWithin, shown_rows-nil, counts_at, raw}
 use Rattle.page_engine.specs.Page.{is_silent, of_page, reported, worst_of, edge, page, raw_lines, settled}
-use Rattle.page_engine.specs.machine.Steps.{IsAt}
+use Rattle.page_engine.specs.machine.Layers.{IsAt}
 use Rattle.page_engine.specs.Edges.{Edge}
 use Rattle.page_engine.specs.declared.layers.Layers.{Layers}
 use Rattle.std.proofs.lemmas.List.{length-map}

@@ -27,7 +27,7 @@ use Rattle.page_engine_lines.specs.Edges.{LinesEdge, footer_items}
 use Rattle.page_roff_source.specs.Runs.{counts_of, SourceLine}
 use Rattle.page_roff_source.specs.declared.counts.Counts.{Counts}
 use Rattle.page_engine.specs.Edges.{Edge, start, last_line}
-use Rattle.page_engine.specs.machine.Steps.{IsAt, edge_of, IsKept}
+use Rattle.page_engine.specs.machine.Layers.{IsAt, edge_of, IsKept}
 use Rattle.page_engine.specs.laws.Within.{IsWithin, bytes_in, target_bytes, text_bytes}
 use Rattle.page_core_base.specs.declared.page_settings.Settings.{Settings}
 use Rattle.page_roff_lines.specs.Lines.{Line}

@@ -1,4 +1,5 @@
 -- The code's own steps and fast ways. Trust needs no reading of them.
 pub mod Held
 pub mod PageSinks
+pub mod Layers
 pub mod Steps

@@ -6,7 +6,7 @@ ghost use Rattle.page_core_base.specs.Texts.{IsLine};
 ghost use Rattle.page_roff_lines.specs.laws.Cutting.{line_of};
 ghost use Rattle.page_roff_source.specs.Runs.{counts_of};
 ghost use Rattle.page_fill.specs.declared.edges.FillEdge.{FillEdge};
-ghost use Rattle.page_engine.specs.machine.Steps.{IsAt};
+ghost use Rattle.page_engine.specs.machine.Layers.{IsAt};
 ghost use Rattle.page_engine.specs.laws.Within.{IsWithin};
 ghost use Rattle.page_engine.specs.machine.PageSinks.{settled_text, settled_line, ended, end_laid, Ends};
 ghost use Rattle.page_engine.specs.Edges.{Edge, last_line, start};

@@ -76,7 +76,7 @@ pub struct Page {
 }
 
 impl Model for Page {
-    ghost use Rattle.page_engine.specs.machine.Steps.{edge_of, IsKept};
+    ghost use Rattle.page_engine.specs.machine.Layers.{edge_of, IsKept};
     ghost use Rattle.page_engine.specs.laws.States.{PageState};
 
     ghost Value = { PageState };

@@ -1,13 +1,8 @@
--- The layers of a page, and the edge that they are at: steps of the code, of which trust needs no reading.
-use Rattle.std.specs.Prelude.{◌≡◌, Option, None, Some, ◌≤◌, ◌^◌, ℕ, List, [], ◌++◌, ◌⊎◌, length, ◌<◌, ◌+◌, ◌-◌, false, Result, MatchResult, take}
-use Rattle.page_roff_source.specs.Runs.{counts_of}
-use Rattle.page_roff_source.specs.declared.counts.Counts.{Counts}
-use Rattle.page_engine.specs.declared.layers.Layers.{Layers}
-use Rattle.page_engine.specs.declared.pages.Phase.{Phase}
-use Rattle.page_engine.specs.declared.pages.Phase.TheVariants.{Open}
+-- What bytes settle from a point of a page on, as a run reads them: a machine of proofs, which no public clause cites. From the first point it is what
+-- `specs/Runs.antt` says of the bytes alone.
+use Rattle.std.specs.Prelude.{◌≡◌, ◌≤◌, ◌^◌, ℕ, List, [], ◌++◌, ◌⊎◌, length, ◌<◌, ◌+◌, ◌-◌, false, Result, MatchResult, take}
 use Rattle.page_engine.specs.Edges.{Edge, start}
-use Rattle.page_engine.specs.laws.Views.{IsReached, counts_at, Came, Front}
-use Rattle.page_fill.specs.declared.edges.FillEdge.{FillEdge}
+use Rattle.page_engine.specs.laws.Views.{counts_at, Came, Front}
 use Rattle.page_core_base.specs.Messages.{IsSinkFault, Rose}
 use Rattle.page_core_base.specs.declared.faults.Fault.{Fault}
 use Rattle.page_core_base.specs.Rows.{Laid, nothing}
@@ -20,31 +15,6 @@ use Rattle.page_core_base.specs.declared.page_settings.Settings.{Settings as Pag
 use Rattle.page_engine.specs.declared.runs.Run.{Run}
 use Rattle.page_engine.specs.laws.States.{PageState, IsOpenAt}
 use Rattle.page_core_streams.specs.Streams.{SourceState, HasGiven, IsLean, IsTooLong}
-
--- the layers are at an edge
-pub record IsAt (here : Layers) (e : Edge) : Type 0 where
-  pub filled : here.filler ≡ Some e.fill
-  pub lines : here.lines ≡ e.lines
-  pub output : here.output ≡ e.fill.output
-  pub levels : here.least ≡ e.least
-  pub worst_level : here.worst ≡ e.worst
-  pub last_line : here.last ≡ e.last
-
-abbrev pub with_fill : Layers → Option FillEdge → Option Edge
-with_fill p None = None
-with_fill p (Some f) = Some (record { least = p.least; worst = p.worst; last = p.last; lines = p.lines; fill = f })
-
--- that edge, where the filler goes on
-abbrev pub edge_of : Layers → Option Edge
-edge_of p = with_fill p p.filler
-
--- while a page is open its layers are at an edge that a page comes to, and its counts are those of its lines
-abbrev pub IsKept : Phase → Counts → Layers → Type 0
-IsKept Open counts layers = (e : Edge) × IsAt layers e × IsReached e × (counts ≡ counts_of layers.lines.roff)
-IsKept _ counts layers = Unit {0}
-
--- ---- What bytes settle from a point of a page on, as a run reads them: a machine of proofs, which no public clause cites. From the first point it is what
--- `specs/Runs.antt` says of the bytes alone.
 
 -- from an edge and a point between two bytes: the page of the bytes to come, and what their lines settle
 abbrev pub page_from : Edge → Point → List ℕ → Laid Edge
