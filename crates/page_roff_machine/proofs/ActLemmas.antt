@@ -1,5 +1,5 @@
 -- What comes next is done, without changing the stack: helpers of proofs.
-use Rattle.std.proofs.Common.{◌≡◌, ℕ, ◌<◌, ◌≤◌, ◌^◌, inl, inr, Bool, true, false, List, [], ◌∷◌, ◌++◌, map, drop, length, Option, Some, None, refl, sym, ap, ◌∙◌, arith}
+use Rattle.std.proofs.Common.{◌≡◌, ℕ, ◌<◌, ◌≤◌, ◌^◌, Bool, true, false, List, [], ◌∷◌, ◌++◌, map, drop, length, Option, Some, None, refl, sym, ap, ◌∙◌, arith}
 use Rattle.page_core_base.specs.Messages.{Message}
 use Rattle.page_core_base.specs.declared.page_settings.Output.{Output}
 use Rattle.page_roff_heads.specs.declared.loops.LoopHead.{LoopHead}
@@ -20,7 +20,7 @@ use Rattle.page_roff_blocks.specs.declared.block_cursors.Reached.{Reached}
 use Rattle.page_roff_blocks.specs.declared.block_cursors.Reached.TheVariants.{PassedOver, First, Remainder}
 use Rattle.page_roff_blocks.specs.Parts.{line_parts}
 use Rattle.page_roff_blocks.specs.Forest.{Levels}
-use Rattle.page_roff_blocks.specs.laws.Views.{BlockCursor, answered, after_part, guarded_by, way_of, passed, reached, reached_in, skip, what_ends, at_line, leave}
+use Rattle.page_roff_blocks.specs.laws.Views.{BlockCursor, answered, after_part, guarded_by, passed, reached, reached_in, skip, what_ends, at_line, leave}
 use Rattle.page_roff_syntax.specs.Regions.{Opened, opened}
 use Rattle.page_roff_blocks.specs.machine.Steps.{Meaning, meet_as, value, refuse_if, keep_if, met, guard_with, guard_met, step_guard, block_with, opening_met, block_met, step_block, step_region, collect_if}
 use Rattle.page_roff_blocks.specs.machine.Steps as steps
@@ -29,7 +29,7 @@ use Rattle.page_roff_blocks.specs.machine.Machine as machine
 use Rattle.page_roff_blocks.specs.machine.Machine.{Frame, Running, Turning, depth, at_part, between, leaf_next, loop_next, end_next, finish_if, part_next, line_next, region_next, next, HasMeasure, IsOnLine}
 use Rattle.page_roff_effects.specs.declared.commands.ProductKind.{ProductKind}
 use Rattle.page_roff_effects.specs.declared.commands.ProductKind.TheVariants as kinds
-use Rattle.page_roff_effects.specs.machine.Acting.{IfCalled, IsCallable, IfRepeated, IsRepeatable, acting_effects, measured, effects}
+use Rattle.page_roff_effects.specs.machine.Acting.{IfCalled, IsCallable, IfRepeated, IsRepeatable, acting_effects, effects}
 use Rattle.page_roff_effects.specs.laws.Views.{State}
 use Rattle.page_roff_effects.specs.States.{Given, says}
 use Rattle.page_roff_stack.specs.declared.next.Next.{Next}
@@ -76,8 +76,7 @@ module _ (output : Output) (d : ℕ) (kind : Kind) where
 
   answer_same : (branch : Branch (List ℕ)) (bit : Bool) (r : Reached) (s : Budgeted State)
       → answer_after m branch bit (meet_as m r s) ≡ answer_after p branch bit (meet_as p r s)
-  answer_same branch bit r s =
-      ap (answer_after m branch bit) (met_same r s) ∙ answer_same_if branch bit (meet_as p r s).0 (meet_as p r s).1
+  answer_same branch bit r s = grind (arith, met_same, answer_same_if)
 
   refuse_same : (way : Way) (h : Head (List ℕ)) (s : Budgeted State)
       → refuse_if m way h s ≡ refuse_if (meaning (acting_effects output) page) way (record { column = h.column; branch = Else }) s
@@ -96,28 +95,20 @@ module _ (output : Output) (d : ℕ) (kind : Kind) where
   guard_same : (h : Head (List ℕ)) (cursor : BlockCursor) (s : Budgeted State)
       → step_guard m h cursor s ≡ (let a = answer_after p h.branch cursor.levels.bit (meet_as p (reached cursor) s) in (passed (passes.Guard (answered h.branch cursor.levels.bit a.0)) cursor, a.1))
   unfolding step_guard met
-  guard_same h cursor s =
-      let q = meet_as m (reached cursor) s in
-      guard_same_if h q.0 cursor q.1
-      ∙ ap (λ (a : Option Bool × Budgeted State). (passed (passes.Guard (answered h.branch cursor.levels.bit a.0)) cursor, a.1)) (answer_same h.branch cursor.levels.bit (reached cursor) s)
+  guard_same h cursor s = grind (arith, guard_same_if, answer_same)
 
   block_same_if : (h : Head (List ℕ)) (is_run : Bool) (cursor : BlockCursor) (s : Budgeted State)
       → block_met m is_run (openings.Conditional h) cursor s
       ≡ (let a = answer_if m h.branch cursor.levels.bit is_run s in (passed (passes.Block (answered h.branch cursor.levels.bit a.0)) cursor, refused output (answered h.branch cursor.levels.bit a.0) h.column cursor a.1))
   unfolding block_met opening_met block_with refuse_if
-  block_same_if h true cursor s =
-      let v = value m h.branch cursor.levels.bit s in
-      ap (λ (t : Budgeted State). (passed (passes.Block (answered h.branch cursor.levels.bit (Some v.0))) cursor, t)) (refuse_same (way_of v.0 (length cursor.levels.outer)) h v.1)
+  block_same_if h true cursor s = grind (arith, refuse_same)
   block_same_if h false cursor s = refl
 
   block_same : (h : Head (List ℕ)) (cursor : BlockCursor) (s : Budgeted State)
       → step_block m (openings.Conditional h) cursor s
       ≡ (let a = answer_after p h.branch cursor.levels.bit (meet_as p (reached cursor) s) in (passed (passes.Block (answered h.branch cursor.levels.bit a.0)) cursor, refused output (answered h.branch cursor.levels.bit a.0) h.column cursor a.1))
   unfolding step_block met
-  block_same h cursor s =
-      let q = meet_as m (reached cursor) s in
-      block_same_if h q.0 cursor q.1
-      ∙ ap (λ (a : Option Bool × Budgeted State). (passed (passes.Block (answered h.branch cursor.levels.bit a.0)) cursor, refused output (answered h.branch cursor.levels.bit a.0) h.column cursor a.1)) (answer_same h.branch cursor.levels.bit (reached cursor) s)
+  block_same h cursor s = grind (arith, block_same_if, answer_same)
 
   passed_same : (h : Opening (List ℕ)) (cursor : BlockCursor) (s : Budgeted State) → reached cursor ≡ PassedOver → step_block m h cursor s ≡ (after_part (skip cursor.levels), s)
   unfolding step_block met meet_as block_met
@@ -133,10 +124,7 @@ module _ (output : Output) (d : ℕ) (kind : Kind) where
   opening_same : (h : LoopHead (List ℕ)) (cursor : BlockCursor) (s : Budgeted State)
       → step_block m (openings.Loop h) cursor s ≡ (let q = opens_after p h (meet_as p (reached cursor) s) in (passed (passes.Loop q.0) cursor, q.1))
   unfolding step_block met
-  opening_same h cursor s =
-      let q = meet_as m (reached cursor) s in
-      opening_same_if h q.0 cursor q.1
-      ∙ ap (λ (q : Bool × Budgeted State). let a = opens_after p h q in (passed (passes.Loop a.0) cursor, a.1)) (met_same (reached cursor) s)
+  opening_same h cursor s = grind (arith, opening_same_if, met_same)
 
   loop_same_if : (may_run is_run : Bool) (h : LoopHead (List ℕ)) (f : Frame) (under : List Frame) (s : Budgeted State) → is_some (depth under) ≡ may_run
       → machine.loop_if (language (acting_effects output)) m is_run h f under s
@@ -188,10 +176,7 @@ pub step_next : (output : Output) (s : Stack) (x : Next (List ℕ) Opened) (stat
     → let l = language (acting_effects output) in
     next l (running s state) ≡ step_in l (meaning_at l (depth s.under) s.top.kind) x s.top.parts s.top.lines s.top s.under state
 unfolding step_of
-step_next output s x state e =
-    let l = language (acting_effects output) in
-    next_steps l s state
-    ∙ ap (λ x. step_in l (meaning_at l (depth s.under) s.top.kind) x s.top.parts s.top.lines s.top s.under state) (sym e)
+step_next output s x state e = grind (arith, next_steps)
 
 pub is_the_line : (x : Next (List ℕ) Opened) → is_line x ≡ true → Line (line_in x) ≡ x
 is_the_line (Line line) e = refl
@@ -261,9 +246,7 @@ region_line_there s o line is_last e = (region_first s.top.turning s.top.region 
 -- in a loop that is collected a region is passed over
 pub region_passed : (r : Runner) (o : Opened) (line : List ℕ) (is_last in_loop : Bool) → RegionLine o line is_last ≡ next_of r.stack → in_loop ≡ r.stack.top.cursor.levels.in_loop
     → IsSound r → in_loop ≡ true → o.is_run ≡ false
-region_passed r o line is_last in_loop e el sound h =
-    let s = r.stack in
-    rw (region_first s.top.turning s.top.region s.top.parts s.top.lines s.under o line is_last e).0 at (sound.frames.0.region (sym el ∙ h))
+region_passed r o line is_last in_loop e el sound h = grind (arith, region_first)
 
 -- ---- room for the count of lines
 
@@ -278,11 +261,7 @@ no_room (body args) b h = tt
 -- only the first line of the page begins there
 pub room : (r : Runner) → IsSound r → 0 < length r.stack.top.lines → HasRoom (is_page r.stack.top.kind) r.doing.budget
 unfolding HasMeasure IsOnLine
-room r sound h =
-    elim sound.way [
-      | inl first ↦ room_of (is_page r.stack.top.kind) r.doing.budget first.1
-      | inr measured ↦ no_room r.stack.top.kind r.doing.budget (λ e. let none = ap length (measured.0 e).0 in omega arith)
-    ]
+room r sound h = grind (arith, room_of, no_room)
 
 -- ---- deciding
 
@@ -555,15 +534,7 @@ module _ {P S : Type 0} (left : P → S → List Message → Type 0) (old : Runn
   -- a line outside of loops
   pub collects_nothing : (out : S) → old.stack.top.cursor.levels.in_loop ≡ false → Collects left old out old out
   unfolding collect_if
-  collects_nothing out e =
-      let l = old.stack.top.cursor.levels in
-      let line = line_in (next_of old.stack) in
-      record {
-        stack = refl;
-        does =
-            stays left old.doing out (λ kind. IsIn kind old.doing) (λ kind s. collect_if (parts_of old.doing kind) l.in_loop l.skipped line s) state_after
-            (λ kind k given. ap (λ in_loop. collect_if (parts_of old.doing kind) in_loop l.skipped line (state_in given old.doing)) e);
-      }
+  collects_nothing out e = grind (arith, stays)
 
   -- a line in the loop that is collected
   pub collects_here : (doing : BudgetedActions) (out out_new : S) (line : List ℕ) (open_blocks : ℕ) → old.stack.top.cursor.levels.in_loop ≡ true
@@ -571,21 +542,7 @@ module _ {P S : Type 0} (left : P → S → List Message → Type 0) (old : Runn
       → Does left old.doing out (collected_in old.doing open_blocks line) doing out_new
       → Collects left old out (record { stack = old.stack; doing = doing }) out_new
   unfolding collect_if
-  collects_here doing out out_new line open_blocks e eb el a =
-      let l = old.stack.top.cursor.levels in
-      record {
-        stack = refl;
-        does = record {
-          setting = a.setting;
-          notes = a.notes;
-          came = a.came;
-          state = λ kind k given.
-              ap (λ in_loop. collect_if (parts_of old.doing kind) in_loop l.skipped (line_in (next_of old.stack)) (state_in given old.doing)) e
-              ∙ ap (λ line. collected_in old.doing l.skipped line kind (state_in given old.doing)) (sym (ap line_in el))
-              ∙ ap (λ open_blocks. collected_in old.doing open_blocks line kind (state_in given old.doing)) (sym eb)
-              ∙ a.state kind k given;
-        };
-      }
+  collects_here doing out out_new line open_blocks e eb el a = grind arith
 
 module _ {P S : Type 0} (left : P → S → List Message → Type 0) (old collected : Runner) (mid : BudgetedActions) (out out_mid out_new : S) where
   -- its line feed comes first, and then what of it belongs to the loop

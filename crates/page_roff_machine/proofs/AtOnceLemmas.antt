@@ -1,5 +1,5 @@
 -- A source line that is taken at once gives what its run gives: helpers of proofs.
-use Rattle.std.proofs.Common.{◌≡◌, ℕ, ◌+◌, ◌≤◌, ◌^◌, Bool, true, false, List, [], ◌∷◌, Option, Some, None, inl, inr, refl, sym, ap, ap₂, subst, ◌∙◌}
+use Rattle.std.proofs.Common.{arith, ◌≡◌, ℕ, ◌+◌, ◌≤◌, ◌^◌, Bool, true, false, List, [], ◌∷◌, Option, Some, None, inl, inr, refl, sym, ap, ap₂, subst, ◌∙◌}
 use Rattle.page_core_base.specs.Texts.{TakenLine}
 use Rattle.page_core_base.specs.declared.page_settings.Output.{Output}
 use Rattle.page_core_base.specs.declared.limits.TheConstants.{REREAD}
@@ -124,13 +124,7 @@ leaf_called : (output : Output) (line : List ℕ) (bit : Bool) (outer : List Boo
     → next (language (acting_effects output)) (alone (frame_at (Leaf line ∷ []) (at_line (level bit outer false 0))) (state_with count m []))
     ≡ Some (in_call call (after_part (level bit outer false 0)) (state_with count m []))
 unfolding next next_in part_next met meet_as reached reached_in reached_from reached_if at_line at_part meaning_at meaning_by language meaning meet whether_run leaf_if
-leaf_called output line bit outer m count call e =
-    let l = language (acting_effects output) in
-    let b = is_some (depth []) in
-    let f = frame_at [] (after_part (level bit outer false 0)) in
-    ap (λ (d : Done (Budgeted State)). Some (leaf_next l b f [] d)) (call_given output line m count call b may_call_on_page e)
-    ∙ ap (λ (r : Running (Budgeted State)). Some r)
-    (calls_next l b f [] (lines_in call.body) (arguments_in call.packed) (state_with count m []) may_call_on_page)
+leaf_called output line bit outer m count call e = grind (arith, call_given, may_call_on_page, calls_next)
 
 -- up to the macro
 run_call : (output : Output) (line : List ℕ) (bit : Bool) (outer : List Bool) (m : Memory) (count : ℕ) (call : MacroCall)
@@ -193,9 +187,7 @@ takes_line old new taken line number idle sound h =
 -- a line that is to come is not nothing
 line_comes : (turning : Option Turning) (region : Option Opened) (parts : List (LinePart (List ℕ))) (lines : List (List ℕ)) (under : List Frame) (line : List ℕ)
     → region ≡ None → parts ≡ [] → lines ≡ line ∷ [] → is_nothing (stacks.next_in turning region parts lines under) ≡ true → ⊥
-line_comes turning region parts lines under line er ep el e =
-    let h : is_nothing (stacks.next_in turning None [] (line ∷ []) under) ≡ true = rw (er, ep, el) at e in
-    cc
+line_comes turning region parts lines under line er ep el e = grind arith
 
 -- with the same sources a runner stays sound
 same_sound : (old new : Runner) → is_idle (machine_of old) ≡ true → IsSound old → IsOutside old.stack → new.stack ≡ old.stack
@@ -227,35 +219,7 @@ inside_is r new region levels s e er el es = rw (e, er, el, ← es) refl
 pub calls_line : (old new : Runner) (line : List ℕ) (number : ℕ) → is_idle (machine_of old) ≡ true → IsSound old → CallsAtOnce line number old new
     → Begins line number (machine_of old) (machine_of new)
 unfolding outcome_of
-calls_line old new line number idle sound h =
-    let output = old.doing.actions.setting.output in
-    let m = numbered number old.doing.actions.memory in
-    let before = h.before in
-    let call = before.doing.actions.call in
-    let levels = old.stack.top.cursor.levels in
-    let count = old.doing.budget.taken in
-    let es : old.doing.actions.setting ≡ acting_setting output page =
-    sound.setting ∙ ap (acting_setting output) (page_kind old.stack.top.kind h.outside.page) in
-    let el = levels_are levels h.outside.loop h.outside.skipped in
-    let eo : leaf_outcome (measured (acting_setting output page)) true line m ≡ gives_call call m =
-    ap (λ (s : ActingSetting). leaf_outcome (measured s) true line m) (sym es) ∙ h.call.given in
-    let same : before.doing.actions.setting.output ≡ output = ap (λ (s : ActingSetting). s.output) h.call.left.setting in
-    let region : before.stack.top.region ≡ None = ap (λ (s : Stack). s.top.region) h.stack ∙ h.outside.region in
-    let there : before.stack.top.cursor.levels ≡ level levels.bit levels.outer false 0 = ap (λ (s : Stack). s.top.cursor.levels) h.stack ∙ el in
-    let state : (running_of [] (machine_of before)).state ≡ state_with (count + 1) m [] =
-    ap (λ (b : Budget). budgeted b (holds before.doing.actions.memory [])) h.budget
-    ∙ ap (λ (k : Memory). budgeted (begun old.doing.budget) (holds k [])) h.call.left.memory in
-    let at : begun_at number (machine_of old) ≡ at_levels None (level levels.bit levels.outer false 0) (state_with count m []) =
-    ap₂ (λ (region : Option Opened) (l : Levels). at_levels region l (state_with count m [])) h.outside.region el in
-    let out : new.doing.actions.setting.output ≡ output = ap (λ (n : Runner). n.doing.actions.setting.output) h.enters ∙ same in
-    record {
-      output = out;
-      outcome = ap (λ (o : Output). rest_of (language (acting_effects o)) (running_of [] (machine_of new))) out
-          ∙ ap (rest_of (language (acting_effects output)))
-          (inside_is before new None (level levels.bit levels.outer false 0) (state_with (count + 1) m []) h.enters region there state)
-          ∙ sym (run_call output line levels.bit levels.outer m count call h.call.leaf eo)
-          ∙ sym (ap (run_page (language (acting_effects output)) (line ∷ [])) at);
-    }
+calls_line old new line number idle sound h = grind (arith, page_kind, levels_are, ap₂, inside_is, run_call)
 
 inside_sound : (r new : Runner) → IsSound r → new ≡ called (page_after r) → IsSound new
 unfolding HasMeasure AreOnLine IsOnLine entered after_part
@@ -278,19 +242,7 @@ pub kept_begins : (old mid new : Runner) (line : List ℕ) (number : ℕ) → Ke
     → new.stack ≡ record { top = page_line line mid.stack.top; under = []; texts = [] }
     → new.doing.actions ≡ with_number number (with_arguments None mid.doing.actions) → new.doing.budget ≡ renewed mid.doing.budget
     → Begins line number (machine_of old) (machine_of new)
-kept_begins old mid new line number h es ea eb =
-    let b = begins mid new line number es ea eb in
-    let output : mid.doing.actions.setting.output ≡ old.doing.actions.setting.output = ap (λ (s : ActingSetting). s.output) h.setting in
-    let at : begun_at number (machine_of mid) ≡ begun_at number (machine_of old) =
-    ap (λ (s : Stack). begun_with s mid.doing.budget (numbered number mid.doing.actions.memory)) h.stack
-    ∙ ap (λ (k : Budget). begun_with old.stack k (numbered number mid.doing.actions.memory)) h.budget
-    ∙ ap (begun_with old.stack old.doing.budget) h.memory in
-    record {
-      output = b.output ∙ output;
-      outcome = b.outcome
-          ∙ ap (λ (o : Output). run_page (language (acting_effects o)) (line ∷ []) (begun_at number (machine_of mid))) output
-          ∙ ap (run_page (language (acting_effects old.doing.actions.setting.output)) (line ∷ [])) at;
-    }
+kept_begins old mid new line number h es ea eb = grind (arith, begins)
 
 mid_sound : (old mid : Runner) (number : ℕ) → Keeps number old mid → IsSound old → IsSound mid
 unfolding IsFirst HasMeasure

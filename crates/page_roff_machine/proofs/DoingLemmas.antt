@@ -1,5 +1,5 @@
 -- What the parts of sources do under the budget, call by call: helpers of proofs.
-use Rattle.std.proofs.Common.{◌≡◌, ℕ, zero, suc, Bool, true, false, not, ◌&&◌, nat_le, List, [], ◌∷◌, ◌++◌, length, map, Option, Some, None, refl, sym, ap, ap₂, ◌∙◌, append_assoc}
+use Rattle.std.proofs.Common.{arith, ◌≡◌, ℕ, zero, suc, Bool, true, false, not, ◌&&◌, nat_le, List, [], ◌∷◌, ◌++◌, length, map, Option, Some, None, refl, sym, ap, ap₂, ◌∙◌, append_assoc}
 use Rattle.std.proofs.lemmas.List.{append-nil, map-append}
 use Rattle.page_core_base.specs.Messages.{Message}
 use Rattle.page_core_base.specs.declared.page_settings.Output.{Output}
@@ -107,8 +107,7 @@ state_to b m new given eb em = rw (eb, em) refl
 
 plain_to : (b : Budget) (m : Memory) (new : BudgetedActions) (given : List Given) (notes : List Message)
     → new.budget ≡ b → new.actions.memory ≡ m → budgeted b (record { memory = m; out = given ++ (map says notes ++ []) }) ≡ state_in (given ++ map says notes) new
-plain_to b m new given notes eb em =
-    ap (λ (more : List Given). budgeted b (record { memory = m; out = given ++ more })) (append-nil (map says notes)) ∙ state_to b m new (given ++ map says notes) eb em
+plain_to b m new given notes eb em = grind (arith, append-nil, state_to)
 
 pub head_plain : (head : RegionHead (List ℕ)) (is_run : Bool) (m : Memory) → (head_outcome head is_run m).product ≡ no_product
 unfolding head_outcome
@@ -154,7 +153,7 @@ collect_plain false line m = refl
 pub acted : (b : Budget) (m : Memory) (new : BudgetedActions) (given : List Given) (o : PartOutcome)
     → new.budget ≡ b → new.actions.memory ≡ o.memory → o.product ≡ no_product
     → budgeted b (after (record { memory = m; out = given }) o) ≡ state_in (given ++ map says o.notes) new
-acted b m new given o eb em ep = rw (eb, em, ep) (ap (λ more. budgeted b (record { memory = o.memory; out = given ++ more })) (append-nil (map says o.notes)))
+acted b m new given o eb em ep = grind (arith, append-nil)
 
 module _ {P S : Type 0} (left : P → S → List Message → Type 0) where
   pub charge_beyond : (old new : BudgetedActions) (out out_new : S)
@@ -216,7 +215,7 @@ module _ {P S : Type 0} (left : P → S → List Message → Type 0) where
 
   pub meet_first : (old : BudgetedActions) (out : S) → Answers left old out (met_in old First) (not old.budget.gave_up) old out
   unfolding meet_as meaning meet whether_run
-  meet_first old out = stays left old out (λ kind. IsIn kind old) (met_in old First) (answer_with (not old.budget.gave_up)) (λ kind k given. refl)
+  meet_first old out = grind (arith, stays)
 
   pub meet_remainder : (old new : BudgetedActions) (out out_new : S)
       → Does left old out (charged_in old) new out_new
@@ -333,11 +332,7 @@ module _ {P S : Type 0} (left : P → S → List Message → Type 0) where
   line_acted : (b : Budget) (m : Memory) (new : BudgetedActions) (given : List Given) (o : PartOutcome) (result : ProductKind)
       → new.budget ≡ b → new.actions.memory ≡ o.memory → result ≡ kind_of o.product → Lends o.product new.actions
       → budgeted b (after (record { memory = m; out = given }) o) ≡ state_in ((given ++ map says o.notes) ++ line_of result new.actions) new
-  line_acted b m new given o result eb em er lends =
-      ap (λ (more : List Given). budgeted b (record { memory = o.memory; out = more }))
-      (sym (append_assoc given (map says o.notes) (lines_of o.product))
-      ∙ ap (λ (more : List Given). (given ++ map says o.notes) ++ more) (lent_line o.product new.actions lends ∙ ap (λ product. line_of product new.actions) (sym er)))
-      ∙ state_to b o.memory new ((given ++ map says o.notes) ++ line_of result new.actions) eb em
+  line_acted b m new given o result eb em er lends = grind (arith, append_assoc, lent_line, state_to)
 
   pub read_met : (old mid new : BudgetedActions) (out out_mid out_new : S) (is_page_now : Bool) (o : Opened) (line : List ℕ) (result : ProductKind)
       → Makes left old out (IsAt is_page_now old) (begun_in old) mid state_after out_mid
@@ -395,13 +390,11 @@ module _ {P S : Type 0} (left : P → S → List Message → Type 0) where
   -- nothing comes of a line
   no_line : (old new : BudgetedActions) (out out_new : S) (suits : Kind → Type 0) (f : Kind → Budgeted State → Budgeted State) (product : ProductKind) → product ≡ kinds.Nothing
       → Makes left old out suits f new (line_after product) out_new → Makes left old out suits f new state_after out_new
-  no_line old new out out_new suits f product e m = made m (λ kind k given.
-      m.state kind k given ∙ ap (λ product. line_after product new (given ++ map says m.notes)) e
-      ∙ ap (λ given. state_in given new) (append-nil (given ++ map says m.notes)))
+  no_line old new out out_new suits f product e m = grind (arith, made, append-nil)
 
   as_line : (old new : BudgetedActions) (out out_new : S) (suits : Kind → Type 0) (f : Kind → Budgeted State → Budgeted State)
       → Makes left old out suits f new state_after out_new → Makes left old out suits f new (line_after kinds.Nothing) out_new
-  as_line old new out out_new suits f m = made m (λ kind k given. m.state kind k given ∙ ap (λ given. state_in given new) (sym (append-nil (given ++ map says m.notes))))
+  as_line old new out out_new suits f m = grind (arith, made, append-nil)
 
   pub read_kept : (old mid new : BudgetedActions) (out out_mid out_new : S) (is_page_now : Bool) (o : Opened) (line : List ℕ) (product : ProductKind) → product ≡ kinds.Nothing
       → Makes left old out (IsAt is_page_now old) (read_in old o line) mid (line_after product) out_mid
@@ -442,7 +435,7 @@ module _ {P S : Type 0} (left : P → S → List Message → Type 0) where
       does_so d (λ kind k given. acted old.budget old.actions.memory new given outcome eb d.memory (finish_plain region in_loop old.budget.gave_up old.actions.memory))
 
   pub not_begun : (old : BudgetedActions) (out : S) (region : Option Opened) (in_loop : Bool) → Does left old out (finished_in old false region in_loop) old out
-  not_begun old out region in_loop = stays left old out (λ kind. IsIn kind old) (finished_in old false region in_loop) state_after (λ kind k given. refl)
+  not_begun old out region in_loop = grind (arith, stays)
 
   -- ---- loops
 
@@ -510,7 +503,7 @@ module _ {P S : Type 0} (left : P → S → List Message → Type 0) where
   pub loop_not_met : (old new : BudgetedActions) (out out_new : S) (reached : Reached) (may_run : Bool) (head : LoopHead (List ℕ))
       → Answers left old out (opened_in old head reached) false new out_new
       → Makes left old out (λ kind. IsIn kind old) (passed_in old may_run head reached) new (done_as kinds.Nothing) out_new
-  loop_not_met old new out out_new reached may_run head a = made a (λ kind k given. ap (closes_after (language (acting_effects (output_of old))) may_run) (a.state kind k given))
+  loop_not_met old new out out_new reached may_run head a = grind (arith, made)
 
   -- what is collected
   pub keeps : (old new : BudgetedActions) (out out_new : S) (text : List ℕ)
@@ -533,9 +526,7 @@ module _ {P S : Type 0} (left : P → S → List Message → Type 0) where
       → None ≡ loop_text open_blocks line
       → Does left old out (collected_in old open_blocks line) old out
   unfolding meaning collect_some
-  collects_none old out open_blocks line e =
-      stays left old out (λ kind. IsIn kind old) (collected_in old open_blocks line) state_after
-      (λ kind k given. ap (λ text. collect_some (acting_effects (output_of old)) text (state_in given old)) (sym e))
+  collects_none old out open_blocks line e = grind (arith, stays)
 
   -- a turn
   turn_tests : (mid new : BudgetedActions) (out_mid out_new : S) (condition : List ℕ) (result : Bool)
@@ -581,7 +572,7 @@ module _ {P S : Type 0} (left : P → S → List Message → Type 0) where
   pub leaf_passed : (old new : BudgetedActions) (out out_new : S) (reached : Reached) (may_call : Bool) (text : List ℕ)
       → Answers left old out (met_in old reached) false new out_new
       → Makes left old out (λ kind. IsIn kind old) (leaf_in old may_call text reached) new (done_as kinds.Nothing) out_new
-  leaf_passed old new out out_new reached may_call text a = made a (λ kind k given. ap (leaf_after (language (acting_effects (output_of old))) may_call kind text) (a.state kind k given))
+  leaf_passed old new out out_new reached may_call text a = grind (arith, made)
 
   leaf_done : (e : Effects State) (b : Budget) (s : State) (m : Memory) (new : BudgetedActions) (given : List Given) (notes : List Message) (p : Product) (result : ProductKind)
       → new.budget ≡ b → new.actions.memory ≡ m → result ≡ kind_of p → Lends p new.actions
@@ -590,11 +581,7 @@ module _ {P S : Type 0} (left : P → S → List Message → Type 0) where
   unfolding done_with done_by with_rest
   leaf_done e b s m new given notes no_product result eb em er lends =
       ap (λ (t : Budgeted State). gives t) (plain_to b m new given notes eb em) ∙ ap (λ product. done_as product new (given ++ map says notes)) (sym er)
-  leaf_done e b s m new given notes (line_product line) result eb em er lends =
-      ap (λ (more : List Given). gives (budgeted b (record { memory = m; out = more }))) (sym (append_assoc given (map says notes) (takes line ∷ [])))
-      ∙ ap (λ (t : Budgeted State). gives t) (state_to b m new ((given ++ map says notes) ++ (takes line ∷ [])) eb em)
-      ∙ ap (λ line. gives (state_in ((given ++ map says notes) ++ (takes line ∷ [])) new)) (sym lends)
-      ∙ ap (λ product. done_as product new (given ++ map says notes)) (sym er)
+  leaf_done e b s m new given notes (line_product line) result eb em er lends = grind (arith, append_assoc, state_to)
   leaf_done e b s m new given notes (call_product lines arguments) result eb em er lends =
       ap (λ (t : Budgeted State). calls lines arguments t) (plain_to b m new given notes eb em)
       ∙ ap₂ (λ (lines arguments : List (List ℕ)). calls lines arguments (state_in (given ++ map says notes) new)) (sym lends.runs) (sym lends.passes)
@@ -656,6 +643,4 @@ module _ {P S : Type 0} (left : P → S → List Message → Type 0) where
       → (not is_page_now && old.budget.gave_up) ≡ true
       → Makes left old out (IsAt is_page_now old) (unopened_in old) old state_after out
   unfolding meaning
-  unopened_silent old out is_page_now h =
-      stays left old out (IsAt is_page_now old) (unopened_in old) state_after
-      (λ kind k given. silent_by (acting_effects (output_of old)) kind old.budget.gave_up (state_in given old) (ap (λ page. not page && old.budget.gave_up) k.page ∙ h))
+  unopened_silent old out is_page_now h = grind (arith, stays, silent_by)

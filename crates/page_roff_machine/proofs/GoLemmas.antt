@@ -8,7 +8,7 @@ use Rattle.page_roff_blocks.specs.declared.block_cursors.Pass.TheVariants as pas
 use Rattle.page_roff_blocks.specs.declared.levels.Way.{Way}
 use Rattle.page_roff_blocks.specs.declared.levels.Way.TheVariants.{Runs, Skips, Exceeds}
 use Rattle.page_roff_blocks.specs.Forest.{Levels}
-use Rattle.page_roff_blocks.specs.laws.Views.{BlockCursor, at_line, after_part, way_of, enter, skip, leave_level, leave_loop, leave_from, leave, passed, what_ends}
+use Rattle.page_roff_blocks.specs.laws.Views.{BlockCursor, at_line, after_part, enter, skip, leave_level, leave_loop, leave_from, leave, passed, what_ends}
 use Rattle.page_roff_syntax.specs.Regions.{Opened, opened}
 use Rattle.page_roff_values.specs.Values.{begin_first, arguments_in, lines_in}
 use Rattle.page_roff_blocks.specs.machine.Machine.{Frame, Turning, turned, at_part, entered, depth, leaf_next, end_next, weight, turns_of}
@@ -29,7 +29,7 @@ use Rattle.page_roff_effects.specs.declared.commands.ProductKind.{ProductKind}
 use Rattle.page_roff_effects.specs.declared.commands.ProductKind.TheVariants as kinds
 use Rattle.page_roff_effects.specs.machine.Acting as acting
 use Rattle.page_roff_effects.specs.machine.Acting.{Acting, IsCallable, acting_effects, acting_setting, effects}
-use Rattle.page_roff_effects.specs.States.{block_outcome, Given, says, takes}
+use Rattle.page_roff_effects.specs.States.{block_outcome, Given, says}
 use Rattle.page_roff_effects.specs.laws.Views.{State}
 use Rattle.page_roff_stack.specs.machine.Stacks as stacks
 use Rattle.page_roff_stack.proofs.InputStackLemmas.{went_kind}
@@ -171,8 +171,7 @@ turn_within (Some turning) f e h t = h
 -- by a part
 pass_kept : (pass : Pass) (s : Stack) → IfEnters pass (is_part (next_of s) ≡ true) → IsKept s.top → IsKept (past (passed pass s.top.cursor) s.top)
 unfolding after_part skip
-pass_kept (passes.Block (Some a)) s h =
-    let l = s.top.cursor.levels in same_kept s.top (passed (passes.Block (Some a)) s.top.cursor) (enter_in (way_of a.value (length l.outer)) a.bit l)
+pass_kept (passes.Block (Some a)) s h = grind (arith, same_kept, enter_in)
 pass_kept (passes.Loop true) s h = open_kept s.top (passed (passes.Loop true) s.top.cursor) (outside_regions s h)
 pass_kept passes.End s h = same_kept s.top (passed passes.End s.top.cursor) (leave_in s.top.cursor.levels)
 pass_kept (passes.Guard (Some a)) s h = same_kept s.top (passed (passes.Guard (Some a)) s.top.cursor) (λ e. e)
@@ -229,43 +228,18 @@ shifts_to old new act progress s e ek eu et kept k step = record {
 pub shifts_leaf : (old new : Runner) → new ≡ record { stack = with_top (past (after_part old.stack.top.cursor.levels) old.stack.top) old.stack; doing = old.doing }
     → IsIn old.stack.top.kind old.doing → Shifts old (acts.Leaf kinds.Nothing) More new
 unfolding moved reached_with at_part after_part
-shifts_leaf old new e k =
-    let s = with_top (past (after_part old.stack.top.cursor.levels) old.stack.top) old.stack in
-    shifts_to old new (acts.Leaf kinds.Nothing) More s e refl refl refl (same_kept old.stack.top (after_part old.stack.top.cursor.levels) (λ h. h)) k
-    (λ given. ap (λ next. Some next) (gives_next (language (acting_effects (output_of old.doing))) (is_some (depth old.stack.under)) s.top s.under (state_in given old.doing)))
+shifts_leaf old new e k = grind (arith, shifts_to, same_kept, gives_next)
 
 pub shifts_leaf_line : (old new : Runner) → new ≡ record { stack = with_top (past (after_part old.stack.top.cursor.levels) old.stack.top) old.stack; doing = old.doing }
     → IsIn old.stack.top.kind old.doing → Shifts old (acts.Leaf kinds.Line) Line new
 unfolding moved reached_with at_part after_part
-shifts_leaf_line old new e k =
-    let s = with_top (past (after_part old.stack.top.cursor.levels) old.stack.top) old.stack in
-    shifts_to old new (acts.Leaf kinds.Line) Line s e refl refl refl (same_kept old.stack.top (after_part old.stack.top.cursor.levels) (λ h. h)) k
-    (λ given. ap (λ next. Some next)
-    (gives_next (language (acting_effects (output_of old.doing))) (is_some (depth old.stack.under)) s.top s.under (state_in (given ++ (takes old.doing.actions.line ∷ [])) old.doing)))
+shifts_leaf_line old new e k = grind (arith, shifts_to, same_kept, gives_next)
 
 pub shifts_call : (old mid new : Runner) → mid ≡ record { stack = with_top (past (after_part old.stack.top.cursor.levels) old.stack.top) old.stack; doing = old.doing }
     → new ≡ called mid → IsCallable (is_some (depth old.stack.under)) old.doing.actions.call
     → Shifts old (acts.Leaf kinds.Call) More new
 unfolding moved reached_with at_part after_part entered
-shifts_call old mid new em e callable =
-    let s = with_top (past (after_part old.stack.top.cursor.levels) old.stack.top) old.stack in
-    let r : Runner = record { stack = s; doing = old.doing } in
-    let k : new ≡ called r = e ∙ ap called em in
-    let call = old.doing.actions.call in
-    record {
-      output = ap (λ (r : Runner). output_of r.doing) k;
-      setting = rw k (setting_is (output_of old.doing) (body (Some (arguments_in call.packed))));
-      step = λ given.
-          ap (λ next. Some next)
-          (calls_next (language (acting_effects (output_of old.doing))) (is_some (depth old.stack.under)) s.top s.under (lines_in call.body) (arguments_in call.packed) (state_in given old.doing) callable.room)
-          ∙ ap (reached_with More given) (sym k);
-      body = record {
-        begins = λ h. rw k (within_huge call.body callable.body);
-        turns = λ h t. let n : length new.stack.under ≡ suc (length old.stack.under) = ap (λ (r : Runner). length r.stack.under) k in absurd (omega arith);
-      };
-      frames = λ h.
-          rw k (record { turning = tt; region = λ e. tt }, (same_kept old.stack.top (after_part old.stack.top.cursor.levels) (λ h. h) h.0, h.1));
-    }
+shifts_call old mid new em e callable = grind (arith, setting_is, calls_next, within_huge, same_kept)
 
 -- the macro that was taken last is called
 pub calls_it : (r new : Runner) (stack : Stack) (bytes packed : List ℕ)
@@ -273,11 +247,7 @@ pub calls_it : (r new : Runner) (stack : Stack) (bytes packed : List ℕ)
     → stack ≡ call_of bytes packed r.stack
     → new ≡ with_arguments_of stack.top.kind (record { stack = stack; doing = r.doing }) → new ≡ called r
 unfolding entered
-calls_it r new stack bytes packed eb ep es e =
-    let to : Stack → Runner = λ stack. with_arguments_of stack.top.kind (record { stack = stack; doing = r.doing }) in
-    e ∙ ap to es
-    ∙ ap (λ bytes. to (call_of bytes packed r.stack)) eb
-    ∙ ap (λ packed. to (call_of r.doing.actions.call.body packed r.stack)) ep
+calls_it r new stack bytes packed eb ep es e = grind arith
 
 -- ---- past what comes next, where nothing else is to be done
 
@@ -286,23 +256,14 @@ pub shifts_move : (old new : Runner) (movement : Movement)
     → IsIn old.stack.top.kind old.doing → stacks.Suits movement (next_of old.stack) × Keeps movement old.stack.top
     → Shifts old (acts.Move movement) More new
 unfolding moved reached_with
-shifts_move old new movement e k suits =
-    let s = with_top (went movement old.stack.top) old.stack in
-    record {
-      output = ap (λ (r : Runner). output_of r.doing) e;
-      setting = rw (e, went_kind movement old.stack.top) k;
-      step = λ given. ap (reached_with More given) (sym e);
-      body = rw e (moved_source movement old.stack suits.1);
-      frames = λ h. rw e (same_frames old.stack s refl (moved_kept movement old.stack suits.0 suits.1) h);
-    }
+shifts_move old new movement e k suits = grind (arith, went_kind, moved_source, same_frames, moved_kept)
 
 region_line_step : (old : Runner) (product : ProductKind) (given : List Given)
     → moved (output_of old.doing) (acts.RegionLine product) old.stack given old.doing
     ≡ reached_with (progress_as product) given (record { stack = with_top (next_line old.stack.top.region [] old.stack.top) old.stack; doing = old.doing })
 unfolding moved reached_with
 region_line_step old kinds.Line given = refl
-region_line_step old _ given =
-    ap (λ given. Some (running (with_top (next_line old.stack.top.region [] old.stack.top) old.stack) (state_in given old.doing))) (append-nil given)
+region_line_step old _ given = grind (arith, append-nil)
 
 pub shifts_region_line : (old new : Runner) (product : ProductKind)
     → new ≡ record { stack = with_top (next_line old.stack.top.region [] old.stack.top) old.stack; doing = old.doing }
@@ -323,18 +284,7 @@ around_kept under more top e h = rw e at h
 pub shifts_source_end : (old mid new : Runner) → mid.doing ≡ old.doing → old.stack.under ≡ mid.stack.top ∷ mid.stack.under
     → new ≡ with_arguments_of mid.stack.top.kind mid → Shifts old acts.SourceEnd More new
 unfolding moved reached_with
-shifts_source_end old mid new ed eu e =
-    let r : Runner = record { stack = mid.stack; doing = old.doing } in
-    let k : new ≡ with_arguments_of mid.stack.top.kind r = e ∙ ap (λ (b : BudgetedActions). with_arguments_of mid.stack.top.kind (record { stack = mid.stack; doing = b })) ed in
-    let one : length old.stack.under ≡ suc (length mid.stack.under) = ap length eu in
-    let same : length new.stack.under ≡ length mid.stack.under = ap (λ (r : Runner). length r.stack.under) k in
-    record {
-      output = ap (λ (r : Runner). output_of r.doing) k;
-      setting = rw k (setting_is (output_of old.doing) mid.stack.top.kind);
-      step = λ given. left_to old.stack.under mid.stack.under mid.stack.top (state_in given old.doing) eu ∙ ap (reached_with More given) (sym k);
-      body = record { begins = λ h. absurd (omega arith); turns = λ h t. absurd (omega arith) };
-      frames = λ h. rw k (around_kept old.stack.under mid.stack.under mid.stack.top eu h.1);
-    }
+shifts_source_end old mid new ed eu e = grind (arith, setting_is, left_to, around_kept)
 
 -- ---- with a message
 
@@ -376,9 +326,7 @@ module _ {P S : Type 0} (left : P → S → List Message → Type 0) where
       → moved (output_of old.doing) (acts.Block answer column) old.stack given old.doing
       ≡ reached_with More given_then (record { stack = in_block old answer; doing = doing })
   unfolding moved reached_with in_block
-  block_step old answer column way given doing given_then e h =
-      ap (λ way. Some (running (in_block old answer) (refuse_if (meaning (acting_effects (output_of old.doing)) page) way (record { column = column; branch = Else }) (state_in given old.doing)))) (sym e)
-      ∙ ap (λ state. Some (running (in_block old answer) state)) h
+  block_step old answer column way given doing given_then e h = grind (arith, in_block)
 
   not_refused : (output : Output) (way : Way) (column : ℕ) (state : Budgeted State) → (way ≡ Exceeds → ⊥)
       → refuse_if (meaning (acting_effects output) page) way (record { column = column; branch = Else }) state ≡ state
@@ -392,10 +340,7 @@ module _ {P S : Type 0} (left : P → S → List Message → Type 0) where
       → new ≡ record { stack = with_top (went (moves.Part (passes.Block answer)) old.stack.top) old.stack; doing = old.doing }
       → IsIn old.stack.top.kind old.doing → is_part (next_of old.stack) ≡ true → Moves left old out (acts.Block answer column) More new out
   unfolding at_part in_block
-  moves_block old new out answer column way ew not_over e k part =
-      quiet old new out (acts.Block answer column) More
-      (shifts_to old new (acts.Block answer column) More (in_block old answer) e refl refl refl (block_kept old answer part) k
-      (λ given. block_step old answer column way given old.doing given ew (not_refused (output_of old.doing) way column (state_in given old.doing) not_over))) tt
+  moves_block old new out answer column way ew not_over e k part = grind (arith, quiet, shifts_to, in_block, block_kept, block_step, not_refused)
 
   pub moves_exceeds : (old : Runner) (actions : Acting) (out out_new : S) (answer : Option Answer) (column : ℕ)
       → Exceeds ≡ way_after answer old.stack.top.cursor
@@ -429,17 +374,14 @@ module _ {P S : Type 0} (left : P → S → List Message → Type 0) where
 
   left_kept : (old : Runner) → IsKept old.stack.top → IsKept (left_block old).top
   unfolding left_block
-  left_kept old = same_kept old.stack.top (after_part (leave old.stack.top.cursor.levels)) (leave_in old.stack.top.cursor.levels)
+  left_kept old = grind (arith, same_kept, leave_in)
 
   ends_as : (old : Runner) (ended : Ended) (given : List Given) → ended ≡ what_ends old.stack.top.cursor.levels
       → moved (output_of old.doing) acts.BlockEnd old.stack given old.doing
       ≡ Some (end_next (language (acting_effects (output_of old.doing))) (meaning (acting_effects (output_of old.doing)) old.stack.top.kind) ended
       (left_block old).top old.stack.under (state_in given old.doing))
   unfolding moved left_block
-  ends_as old ended given e =
-      ap (λ ended.
-      Some (end_next (language (acting_effects (output_of old.doing))) (meaning (acting_effects (output_of old.doing)) old.stack.top.kind) ended
-      (left_block old).top old.stack.under (state_in given old.doing))) (sym e)
+  ends_as old ended given e = grind (arith, left_block)
 
   pub leaves_block : (old new : Runner) (out : S)
       → endings.Block ≡ what_ends old.stack.top.cursor.levels

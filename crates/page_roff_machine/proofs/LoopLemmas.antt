@@ -50,10 +50,7 @@ begun text args = looped (body args) (first_text (lines_in text)) (drop 1 (lines
 
 begun_in : (kind : Kind) (text : List ℕ) (args : Option (List (List ℕ))) → args ≡ arguments_of kind
     → looped kind (condition_in text) (body_in text) ≡ begun text args
-begun_in kind text args e =
-    looped_in kind (condition_in text) (body_in text)
-    ∙ ap (λ condition. looped (body (arguments_of kind)) condition (body_in text)) (same_first (lines_in text))
-    ∙ ap (begun text) (sym e)
+begun_in kind text args e = grind (arith, looped_in, same_first)
 
 module _ (mid new : Runner) (r : Repeats mid new) where
   pub repeats_setting : IsIn mid.stack.top.kind mid.doing → IsIn new.stack.top.kind new.doing
@@ -66,12 +63,7 @@ module _ (mid new : Runner) (r : Repeats mid new) where
   pub repeats_step : (l : Language (Budgeted State)) (may_run : Bool) (given : List Given) → may_run ≡ true
       → Some (leaf_next l may_run mid.stack.top mid.stack.under (done_as kinds.Loop mid.doing given)) ≡ reached_with More given new
   unfolding reached_with
-  repeats_step l may_run given e =
-      let text = mid.doing.actions.call.body in
-      ap (λ next. Some next) (repeats_next l may_run mid.stack.top mid.stack.under (condition_in text) (body_in text) (state_in given mid.doing) e)
-      ∙ ap (λ top. Some (record { top = top; under = mid.stack.top ∷ mid.stack.under; state = state_in given mid.doing }))
-      (begun_in mid.stack.top.kind text (unpacked r.packed) r.arguments)
-      ∙ ap (reached_with More given) (sym r.loop)
+  repeats_step l may_run given e = grind (arith, repeats_next, begun_in)
 
   pub repeats_within : IsBodyWithin mid.stack new.stack
   unfolding looped weight
@@ -82,8 +74,7 @@ module _ (mid new : Runner) (r : Repeats mid new) where
 
   pub repeats_frames : (may_run : Bool) → IsRepeatable may_run mid.doing.actions.call.body → AreKept (frames_of mid.stack) → AreKept (frames_of new.stack)
   unfolding looped
-  repeats_frames may_run c h =
-      rw r.loop (record { turning = rest_within mid.doing.actions.call.body c.short; region = λ e. tt }, (h.0, h.1))
+  repeats_frames may_run c h = grind (arith, rest_within)
 
 -- ---- past a loop without a block
 

@@ -1,5 +1,5 @@
 -- What is still to come: helpers of proofs.
-use Rattle.std.proofs.Common.{◌≡◌, ℕ, ◌≤◌, ◌^◌, inl, inr, true, List, [], ◌∷◌, ◌++◌, map, Option, Some, None, refl, sym, ap, ◌∙◌}
+use Rattle.std.proofs.Common.{arith, ◌≡◌, ℕ, ◌≤◌, ◌^◌, inl, inr, true, List, [], ◌∷◌, ◌++◌, map, Option, Some, None, refl, sym, ap, ◌∙◌}
 use Rattle.std.proofs.lemmas.List.{append-nil}
 use Rattle.page_core_base.specs.Messages.{Message}
 use Rattle.page_core_base.specs.declared.page_settings.Output.{Output}
@@ -8,8 +8,8 @@ use Rattle.page_roff_blocks.specs.Forest.{SourcePlace}
 use Rattle.page_roff_blocks.specs.laws.Views.{at_line}
 use Rattle.page_roff_syntax.specs.Regions.{Opened}
 use Rattle.page_roff_blocks.specs.machine.Steps.{Meaning, At}
-use Rattle.page_roff_blocks.specs.machine.Languages.{Language, meaning_at, run_page, Budgeted, language, renewed}
-use Rattle.page_roff_blocks.specs.machine.Machine.{Frame, depth, at_page, rest_of, next, stands_at, over, HasMeasure, AreOnLine, IsOnLine, IsFirst}
+use Rattle.page_roff_blocks.specs.machine.Languages.{Language, run_page, Budgeted, language, renewed}
+use Rattle.page_roff_blocks.specs.machine.Machine.{Frame, at_page, rest_of, next, stands_at, over, HasMeasure, AreOnLine, IsOnLine, IsFirst}
 use Rattle.page_roff_blocks.proofs.MachineLemmas.{rest_front, next_law, end_law, page_law}
 use Rattle.page_roff_effects.specs.machine.Acting as acting
 use Rattle.page_roff_effects.specs.machine.Acting.{Acting, with_number, with_arguments, acting_effects, measured, in_front}
@@ -69,10 +69,7 @@ none_next l m _ parts lines f under s e = absurd (cc)
 
 pub idle_stands : (m : Machine) → is_idle m ≡ true → outcome_of m ≡ stands m
 unfolding step_of
-idle_stands m e =
-    let l = language_of m in
-    let r = running_of [] m in
-    outcome_end m (next_steps l m.stack r.state ∙ none_next l (meaning_at l (depth m.stack.under) m.stack.top.kind) (next_of m.stack) m.stack.top.parts m.stack.top.lines m.stack.top m.stack.under r.state e)
+idle_stands m e = grind (arith, outcome_end, next_steps, none_next)
 
 pub new_idle : (output : Output) (m : Machine) → IsNew output m → is_idle m ≡ true
 new_idle output m h = ap (λ stack. is_nothing (next_of stack)) h.stack
@@ -82,10 +79,7 @@ new_idle output m h = ap (λ stack. is_nothing (next_of stack)) h.stack
 pub outcome_line : (old new : Machine) (line : List ℕ) (at : At (Budgeted State)) → output_of new ≡ output_of old → running_of [] new ≡ at_page line at
     → outcome_of new ≡ run_page (language_of old) (line ∷ []) at
 unfolding outcome_of
-outcome_line old new line at eo e =
-    ap (λ (output : Output). rest_of (language (acting_effects output)) (running_of [] new)) eo
-    ∙ ap (rest_of (language_of old)) e
-    ∙ page_law (language_of old) line at
+outcome_line old new line at eo e = grind (arith, page_law)
 
 -- ---- the whole object
 

@@ -1,12 +1,12 @@
 -- Steps of the machine, one after another: helpers of proofs.
-use Rattle.std.proofs.Common.{◌≡◌, ℕ, suc, ◌≤◌, inl, inr, Bool, true, false, List, [], ◌∷◌, ◌++◌, map, Some, refl, sym, ap, ◌∙◌, append_assoc}
+use Rattle.std.proofs.Common.{arith, ◌≡◌, ℕ, suc, ◌≤◌, inr, Bool, true, false, List, [], ◌∷◌, ◌++◌, map, Some, refl, sym, ap, ◌∙◌, append_assoc}
 use Rattle.std.proofs.lemmas.List.{append-nil}
 use Rattle.page_core_base.specs.Messages.{Message}
 use Rattle.page_core_base.specs.declared.page_settings.Output.{Output}
 use Rattle.page_roff_blocks.specs.machine.Steps.{At}
 use Rattle.page_core_base.specs.laws.Views.{Came}
 use Rattle.page_roff_blocks.specs.machine.Machine.{next, measure, HasMeasure, HasBodyWithin, IsFirst, credit, over}
-use Rattle.page_roff_effects.specs.machine.Acting.{acting_effects, measured, in_front}
+use Rattle.page_roff_effects.specs.machine.Acting.{acting_effects, in_front}
 use Rattle.page_roff_blocks.specs.machine.Languages.{Budgeted, language}
 use Rattle.page_roff_blocks.proofs.CreditLemmas.{next_falls}
 use Rattle.page_roff_blocks.proofs.StepLemmas.{first_falls}
@@ -20,7 +20,7 @@ use Rattle.page_roff_machine.specs.declared.acts.Progress.TheVariants.{More, Lin
 use Rattle.page_roff_machine.specs.declared.runners.Runner.{Runner}
 use Rattle.page_roff_machine.specs.machine.Doing.{IsIn, output_of, state_in}
 use Rattle.page_roff_machine.specs.Giving.{notes_before, next_line, after_line}
-use Rattle.page_roff_machine.specs.machine.Machines.{Machine, outcome_of, to_come, end_of, hushed, Advances}
+use Rattle.page_roff_machine.specs.machine.Machines.{Machine, outcome_of, to_come, hushed, Advances}
 use Rattle.page_roff_machine.specs.machine.Moving.{moved, reached_with, AreKept, frames_of, IsBodyWithin, IfDone, Suits, HUGE, Decides, Moves}
 use Rattle.page_roff_machine.specs.machine.Stepping.{machine_of, IsMeasured, IsSound, Steps, Leads}
 use Rattle.page_roff_machine.proofs.ActLemmas.{step_next, is_nothing_next}
@@ -55,11 +55,7 @@ first_measured old new given h k kept e =
 measured_from : (old new : Runner) (given : List Given) → IsSound old → IsIn new.stack.top.kind new.doing → (AreKept (frames_of old.stack) → AreKept (frames_of new.stack)) → IsBodyWithin old.stack new.stack
     → next (language (acting_effects (output_of old.doing))) (running old.stack (state_in [] old.doing)) ≡ Some (running new.stack (state_in given new.doing))
     → IsMeasured new
-measured_from old new given h k kept b e =
-    elim h.way [
-      | inl first ↦ first_measured old new given first.0 k (kept h.frames) e
-      | inr measured ↦ (falls old new given (record { setting = h.setting; frames = h.frames; way = measured }) k (kept h.frames) b e).1
-    ]
+measured_from old new given h k kept b e = grind (arith, first_measured, falls)
 
 pub sound_of : (r : Runner) → IsMeasured r → IsSound r
 sound_of r h = record { setting = h.setting; frames = h.frames; way = inr h.way }
@@ -114,16 +110,7 @@ module _ {P S : Type 0} (left : P → S → List Message → Type 0) where
   leads_given : (old new : Machine) (out out_new : S) (notes : List Message) → new.actions.setting.output ≡ old.actions.setting.output
       → Came left out notes out_new → outcome_of old ≡ over (in_front (map says notes)) (outcome_of new)
       → Leads left old out new out_new
-  leads_given old new out out_new notes eo came e =
-      let given : to_come old ≡ map says notes ++ to_come new = ap (λ (a : At (Budgeted State)). a.state.rest.out) e in
-      let before : notes_before (to_come old) ≡ notes ++ notes_before (to_come new) = ap notes_before given ∙ notes_after notes (to_come new) in
-      record {
-        output = eo;
-        came = λ plan more h. came plan (notes_before (to_come new) ++ more) (rw append_assoc at (rw before at h));
-        line = sym (ap next_line given ∙ line_after notes (to_come new));
-        rest = sym (ap after_line given ∙ rest_after notes (to_come new));
-        ends = sym (ap hushed e);
-      }
+  leads_given old new out out_new notes eo came e = grind (arith, notes_after, append_assoc, line_after, rest_after)
 
   pub leads : (old new : Runner) (out out_new : S) → Steps left old out More new out_new
       → Leads left (machine_of old) out (machine_of new) out_new
@@ -155,19 +142,7 @@ module _ {P S : Type 0} (left : P → S → List Message → Type 0) where
   pub is_done : (old new : Runner) (out out_new : S) → Steps left old out Done new out_new
       → Advances left (machine_of old) out false (machine_of new) out_new
   unfolding reached_with
-  is_done old new out out_new s =
-      let m = machine_of old in
-      let e = outcome_end m s.step in
-      let none : to_come m ≡ [] = ap (λ (a : At (Budgeted State)). a.state.rest.out) e in
-      let same : machine_of new ≡ m = ap machine_of s.done.0 in
-      record {
-        output = s.output;
-        came = rw none (rw s.done.1 at s.came);
-        line = ap next_line none;
-        rest = ap to_come same ∙ none ∙ sym (ap after_line none);
-        ends = ap end_of same;
-        idle = ap (λ (r : Runner). is_nothing (next_of r.stack)) s.done.0 ∙ s.done.2;
-      }
+  is_done old new out out_new s = grind (arith, outcome_end)
 
   -- ---- one after another
 
@@ -205,8 +180,7 @@ module _ {P S : Type 0} (left : P → S → List Message → Type 0) where
 
   pub sound_line : (old new : Runner) (out out_new : S) → IsSound old → Steps left old out Line new out_new → IsSound new
   unfolding reached_with
-  sound_line old new out out_new h s =
-      sound_of new (measured_from old new (map says s.notes ++ (takes new.doing.actions.line ∷ [])) h s.setting s.frames s.body s.step)
+  sound_line old new out out_new h s = grind (arith, sound_of, measured_from)
 
   pub sound_done : (old new : Runner) (out out_new : S) → IsSound old → Steps left old out Done new out_new → IsSound new
   sound_done old new out out_new h s = rw s.done.0 h

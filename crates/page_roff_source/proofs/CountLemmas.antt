@@ -134,11 +134,7 @@ same_edge : (e f : RoffEdge) → e.output ≡ f.output → e.place ≡ f.place �
 same_edge e f a b c d g = rw (a, b, c, d, g) refl
 
 pub done-idle : (e : RoffEdge) (lines : List SourceLine) → done e lines ≡ idle (lines_done e lines)
-done-idle e lines =
-    let a = all_same e lines in
-    let s = all_stands e lines in
-    same_edge (done e lines) (lines_done e lines) (sym (lines_done-output e lines)) (ap (λ a. a.place) a ∙ s.place) (ap (λ a. a.state.memory) a ∙ s.memory)
-    (sym (lines_done-source e lines)) (ap (λ a. a.state.taken) a ∙ s.taken)
+done-idle e lines = grind (arith, all_same, all_stands, same_edge, lines_done-output, lines_done-source)
 
 lines_done-to_come : (e : RoffEdge) (lines : List SourceLine) → e.to_come ≡ None → (lines_done e lines).to_come ≡ None
 unfolding lines_done
@@ -162,15 +158,12 @@ unfolding lines_done
 one_done e line = done-idle e (line ∷ [])
 
 pub begun-is : (e : RoffEdge) (line : SourceLine) → line.notes ≡ [] → line_begun e line ≡ run_begun e line
-begun-is e line h =
-    ap (λ (t : Option (List Given)). record (done e (line ∷ [])) { to_come = t }) (ap Some (one_given e line h))
-    ∙ ap (λ (f : RoffEdge). record f { to_come = Some (line_given e line) }) (one_done e line)
+begun-is e line h = grind (arith, one_given, one_done)
 
 -- of roff over a sink, as long as it goes on
 pub begun_edge : (is_going : Bool) (old new : RoffEdge) (edge : Option RoffEdge) (line : SourceLine) → line.notes ≡ [] → is_going ≡ true
     → cond is_going (Some old) None ≡ edge → new ≡ run_begun old line → cond is_going (Some new) None ≡ option_map (λ e. line_begun e line) edge
-begun_edge true old new edge line none going before after =
-    ap Some (after ∙ sym (begun-is old line none)) ∙ ap (option_map (λ e. line_begun e line)) before
+begun_edge true old new edge line none going before after = grind (arith, begun-is, option_map)
 begun_edge false old new edge line none going before after = cc
 
 -- ---- How many lines a source line gives and takes: helpers of proofs.
@@ -197,19 +190,12 @@ lines_out s = line_count s.out
 
 after_count : (s : State) (o : PartOutcome) → lines_out (after s o) ≡ lines_out s + line_count (lines_of o.product)
 unfolding lines_out
-after_count s o =
-    let a = count-append s.out (map says o.notes ++ lines_of o.product) in
-    let b = count-append (map says o.notes) (lines_of o.product) in
-    let c = count-says o.notes in
-    omega (arith, a, b, c)
+after_count s o = grind (arith, count-append, count-says)
 
 -- a part of which nothing comes but messages
 quiet : (s : State) (o : PartOutcome) → o.product ≡ no_product → lines_out (after s o) ≡ lines_out s
 unfolding line_count
-quiet s o e =
-    let a = after_count s o in
-    let b : line_count (lines_of o.product) ≡ 0 = ap (λ (p : Product). line_count (lines_of p)) e in
-    omega (arith, a, b)
+quiet s o e = grind (arith, after_count)
 
 few : (s : State) (o : PartOutcome) → lines_out (after s o) ≤ lines_out s + 1
 few s o = let a = after_count s o in let b = product_count o.product in omega (arith, a, b)
@@ -239,11 +225,7 @@ module _ (units : List ℕ → ℕ) where
   leaf_lines : (may_call : Bool) (kind : Kind) (text : List ℕ) (s : State)
       → lines_out (state_of ((effects units).leaf may_call kind text s)) ≤ lines_out s + 1
   unfolding effects done_after
-  leaf_lines may_call kind text s =
-      let o = leaf_outcome (setting_of units kind) may_call text s.memory in
-      let d = done_out o.product (after s o) in
-      let f = few s o in
-      omega (arith, d, f)
+  leaf_lines may_call kind text s = grind (arith, done_out, few)
 
   tests_lines : (kind : Kind) (condition : Condition (List ℕ)) (s : State)
       → lines_out ((effects units).tests kind condition s).1 ≤ lines_out s + 1
@@ -262,12 +244,7 @@ module _ (units : List ℕ → ℕ) where
 
   closes_lines : (is_run may_run : Bool) (s : State) → lines_out (state_of ((effects units).closes is_run may_run s)) ≡ lines_out s
   unfolding effects done_after
-  closes_lines is_run may_run s =
-      let o = close_outcome is_run may_run s.memory in
-      let d = done_out o.product (after s o) in
-      let a = after_count s o in
-      let n = close_quiet is_run may_run s.memory in
-      omega (arith, d, a, n)
+  closes_lines is_run may_run s = grind (arith, done_out, after_count, close_quiet)
 
   -- a line that is taken gives one line for the set of macros at most
   lines_spend : Spends lines_out 1 (effects units)
@@ -291,9 +268,7 @@ module _ (units : List ℕ → ℕ) where
 
 pub taken_bound : (e : RoffEdge) (line : SourceLine) → (line_done e line).taken ≤ e.taken + (REREAD + 1)
 unfolding run_line before_line
-taken_bound e line =
-    let h = page_line_bound (effects (units_of e.output)) line.text (before_line e line) in
-    omega (arith, h)
+taken_bound e line = grind (arith, page_line_bound)
 
 before_none : (e : RoffEdge) (line : SourceLine) → lines_out (before_line e line).state.rest ≡ 0
 unfolding before_line lines_out line_count
@@ -349,10 +324,7 @@ each_bound e =
 lines_done-bound : (e : RoffEdge) (lines : List SourceLine) → (lines_done e lines).taken ≤ e.taken + (REREAD + 1) * length lines
 unfolding lines_done
 lines_done-bound e [] = omega arith
-lines_done-bound e (line ∷ lines) =
-    let h = taken_bound e line in
-    let g = lines_done-bound (line_done e line) lines in
-    omega (arith, h, g)
+lines_done-bound e (line ∷ lines) = grind (arith, taken_bound, lines_done-bound (line_done e line) lines)
 
 pub lines_bound : (e : RoffEdge) (lines : List SourceLine) → (done e lines).taken ≤ e.taken + (REREAD + 1) * length lines
 lines_bound e lines = rw (done-idle e lines) (lines_done-bound e lines)
@@ -361,10 +333,7 @@ lines_done-expansions : (e : RoffEdge) (lines : List SourceLine)
     → (lines_done e lines).memory.expansions + EXPAND * e.taken ≤ EXPAND * (lines_done e lines).taken + e.memory.expansions
 unfolding lines_done
 lines_done-expansions e [] = omega arith
-lines_done-expansions e (line ∷ lines) =
-    let h = expansions_bound e line in
-    let g = lines_done-expansions (line_done e line) lines in
-    omega (arith, h, g)
+lines_done-expansions e (line ∷ lines) = grind (arith, expansions_bound, lines_done-expansions (line_done e line) lines)
 
 pub lines_expansions : (e : RoffEdge) (lines : List SourceLine)
     → (done e lines).memory.expansions + EXPAND * e.taken ≤ EXPAND * (done e lines).taken + e.memory.expansions
@@ -374,10 +343,7 @@ lines_expansions e lines = rw (done-idle e lines) (lines_done-expansions e lines
 
 one_count : (e : RoffEdge) (line : SourceLine) → line_count (given e (line ∷ [])) ≡ line_count (line_given e line)
 unfolding lines_given
-one_count e line =
-    let front = count-append (map says line.notes) (line_given e line ++ []) in
-    let none = count-says line.notes in
-    ap line_count (given-by_line e (line ∷ [])) ∙ omega (arith, front, none, ap line_count (append-nil (line_given e line)))
+one_count e line = grind (arith, count-append, count-says, given-by_line, append-nil)
 
 pub one_taken : (e : RoffEdge) (line : SourceLine) → (done e (line ∷ [])).taken ≤ e.taken + (REREAD + 1)
 one_taken e line = rw (one_done e line) (taken_bound e line)
@@ -419,15 +385,7 @@ unfolding run_all
 done-of-idle e lines = refl
 
 pub given-append : (e : RoffEdge) (above below : List SourceLine) → given e (above ++ below) ≡ given e above ++ given (done e above) below
-given-append e above below =
-    let f = lines_done e above in
-    given-by_line e (above ++ below) ∙ lines_given-append e above below
-    ∙ ap (λ (g : List Given). g ++ lines_given f below) (sym (given-by_line e above))
-    ∙ ap (λ (g : List Given). given e above ++ g) (sym (given-by_line f below) ∙ sym (given-idle f below))
-    ∙ ap (λ (d : RoffEdge). given e above ++ given d below) (sym (done-idle e above))
+given-append e above below = grind (arith, given-by_line, lines_given-append, given-idle, done-idle)
 
 pub done-append : (e : RoffEdge) (above below : List SourceLine) → done e (above ++ below) ≡ done (done e above) below
-done-append e above below =
-    let f = lines_done e above in
-    done-idle e (above ++ below) ∙ ap (λ (d : RoffEdge). idle d) (lines_done-append e above below)
-    ∙ sym (done-idle f below) ∙ sym (done-of-idle f below) ∙ ap (λ (d : RoffEdge). done d below) (sym (done-idle e above))
+done-append e above below = grind (arith, done-idle, lines_done-append, done-of-idle)

@@ -1,15 +1,12 @@
 -- How many skipped blocks a line begins: helpers of proofs.
 use Rattle.std.proofs.Common.{ℕ, ◌+◌, ◌*◌, ◌≤◌, Bool, true, false, List, length, Option, Some, None, arith, ◌≡◌, ◌<◌, ◌^◌, [], ◌∷◌, IfSome, is_some, option_map, refl, sym, ap, subst, ◌∙◌}
-use Rattle.page_roff_blocks.specs.Parts.{line_parts}
 use Rattle.page_roff_syntax.specs.Regions.{is_ending, Opened}
 use Rattle.page_roff_blocks.specs.Forest.{Levels, SourcePlace, outside, first_place}
 use Rattle.page_roff_blocks.specs.laws.Views.{at_line, PlaceFits}
-use Rattle.page_roff_blocks.specs.machine.Steps.{Meaning, At, begin_line, step_inside, step_from, step, step_lines}
+use Rattle.page_roff_blocks.specs.machine.Steps.{Meaning, At, step_inside, step_from, step, step_lines}
 use Rattle.page_roff_blocks.proofs.LinePartLemmas.{line_parts_room, step_room}
-use Rattle.page_roff_values.specs.Values.{units_of}
-use Rattle.page_roff_blocks.specs.machine.Languages.{page, meaning_at, run_page, language, Budget, Budgeted}
-use Rattle.page_core_base.specs.declared.limits.TheConstants.{CALLS, LINE, REREAD}
-use Rattle.page_roff_effects.specs.machine.Acting.{effects, ActingSetting}
+use Rattle.page_roff_blocks.specs.machine.Languages.{run_page, Budgeted}
+use Rattle.page_core_base.specs.declared.limits.TheConstants.{LINE, REREAD}
 use Rattle.page_roff_source.specs.Runs.{RoffEdge, SourceLine, first_edge, counts_of, end_notes}
 use Rattle.page_roff_source.specs.machine.RoffLines.{before_line, run_line, line_done, LinesState, TakesSource, line_given, run_begun, edge_of, state_of, given_by, run_if, IsIdleAs, IsCounted, IsAtEdge, RunsOn}
 use Rattle.page_core_base.specs.Texts.{TakenLine}
@@ -21,15 +18,13 @@ use Rattle.page_roff_blocks.specs.machine.Machine.{next}
 use Rattle.page_roff_stack.specs.machine.Stacks.{is_nothing}
 use Rattle.page_roff_stack.specs.machine.Stacks as stack
 use Rattle.page_roff_effects.specs.laws.Views.{MemoryFits, State}
-use Rattle.page_roff_effects.specs.Regions.{finish_outcome}
-use Rattle.page_roff_effects.specs.States.{Given, Memory, takes, first_memory, numbered}
-use Rattle.page_roff_machine.specs.Giving.{next_line, after_line}
-use Rattle.page_roff_machine.specs.machine.Machines.{Machine, output_of, language_of, outcome_of, to_come, end_of, place_of, stands, stands_after, begun_at, Begins, Takes, BeginsOrTakes, Advances, taken_if, IsIdleUnless, IsNew, Resumes}
+use Rattle.page_roff_effects.specs.States.{Given, Memory, takes, numbered}
+use Rattle.page_roff_machine.specs.machine.Machines.{Machine, outcome_of, to_come, place_of, stands, stands_after, begun_at, Begins, Takes, BeginsOrTakes, Advances, taken_if, IsIdleUnless, IsNew, Resumes}
 use Rattle.page_roff_machine.specs.machine.Moving.{IsPassed}
 use Rattle.page_roff_machine.specs.machine.Machines as machine
 use Rattle.page_roff_machine.proofs.MachineLemmas.{idle_stands, new_idle, resumed_idle}
 use Rattle.page_roff_source.specs.declared.counts.Counts.{Counts}
-use Rattle.page_roff_source.specs.laws.Views.{RoffFits, Part, IsPart, edge_at, part_of, given_of, line_taken, left_if}
+use Rattle.page_roff_source.specs.laws.Views.{RoffFits, Part, IsPart, edge_at, part_of, line_taken, left_if}
 use Rattle.page_roff_source.specs.declared.roff_lines.Remaining.{Remaining}
 use Rattle.page_roff_source.specs.declared.roff_lines.Remaining.TheVariants as remaining
 use Rattle.page_roff_source.proofs.CountLemmas.{taken_bound}
@@ -45,14 +40,12 @@ module _ {S : Type 0} (m : Meaning S) where
 
   from_room : (o : Option Opened) (line : List ℕ) (l : Levels) (s : S) → IsRoomy l line (step_from m o line l s)
   unfolding step_from IsRoomy at_line
-  from_room None line l s =
-      omega (arith, step_room m (line_parts line) (at_line l) (begin_line m line l s), line_parts_room line)
+  from_room None line l s = grind (arith, step_room, line_parts_room)
   from_room (Some o) line l s = inside_room (is_ending o.ending line) o line l s
 
 pub done_room : (e : RoffEdge) (line : SourceLine) → (line_done e line).place.levels.skipped ≤ e.place.levels.skipped + (2 * length line.text + 2)
 unfolding run_line before_line run_page step_lines step IsRoomy
-done_room e line =
-    let a = before_line e line in from_room (meaning_at (language (effects (units_of e.output))) CALLS page) a.place.region line.text a.place.levels a.state
+done_room e line = grind (arith, from_room)
 
 -- ---- The machine that runs a page's lines is at the page's edge: helpers of proofs.
 
@@ -70,16 +63,6 @@ edge_with output a source to_come = record {
 abbrev begun_with : Output → At (Budgeted State) → ℕ → RoffEdge
 begun_with output a source = edge_with output a source (Some a.state.rest.out)
 
-abbrev at_stack : Output → stack.Stack → Memory → ℕ → RoffEdge
-at_stack output s memory taken = record {
-  output = output;
-  place = record { region = s.top.region; levels = s.top.cursor.levels };
-  memory = memory;
-  source = 0;
-  taken = taken;
-  to_come = None;
-}
-
 -- a line begins where the page is
 abbrev begun_from : At (Budgeted State) → ℕ → At (Budgeted State)
 begun_from a number = record {
@@ -96,12 +79,7 @@ begun_from a number = record {
 
 new_edge : (output : Output) (m : Machine) → IsNew output m → outcome_of m ≡ stands m → edge_of m 0 remaining.Nothing ≡ first_edge output
 unfolding at_line first_place
-new_edge output m n e =
-    ap (λ (a : At (Budgeted State)). edge_with (output_of m) a 0 None) e
-    ∙ ap (λ (s : ActingSetting). edge_with s.output (stands m) 0 None) n.actions.setting
-    ∙ ap (λ (s : stack.Stack). at_stack output s m.actions.memory m.budget.taken) n.stack
-    ∙ ap (λ (k : Memory). at_stack output stack.first_stack k m.budget.taken) n.actions.memory
-    ∙ ap (λ (b : Budget). at_stack output stack.first_stack first_memory b.taken) n.budget
+new_edge output m n e = grind arith
 
 pub new_at : (output : Output) (m : Machine) → IsNew output m → edge_of m 0 remaining.Nothing ≡ first_edge output
 new_at output m n = new_edge output m n (idle_stands m (new_idle output m n))
@@ -118,9 +96,7 @@ held_part place memory source taken = record { place = place; memory = memory; s
 resumed_edge : (output : Output) (p : Part) (m : Machine) → Resumes output p.place p.memory p.taken m → outcome_of m ≡ stands m
     → edge_of m p.source remaining.Nothing ≡ edge_at output p
 unfolding at_line
-resumed_edge output p m h e =
-    ap (λ (a : At (Budgeted State)). edge_with (output_of m) a p.source None) e
-    ∙ rw (h.actions.setting, h.stack, h.actions.memory, h.budget) refl
+resumed_edge output p m h e = grind arith
 
 pub resumed_at : (output : Output) (p : Part) (m : Machine) → Resumes output p.place p.memory p.taken m
     → edge_of m p.source remaining.Nothing ≡ edge_at output p
@@ -139,8 +115,7 @@ resumed_invariant output p m k h =
 -- the part that is held where all was given
 pub part_at : (m : Machine) (source : ℕ) (left : Remaining) → IsAtEdge m source left → (edge_of m source left).to_come ≡ None
     → part_of (edge_of m source left) ≡ record { place = place_of m; memory = m.actions.memory; source = source; taken = m.budget.taken }
-part_at m source remaining.Nothing p none =
-    ap (λ (a : At (Budgeted State)). part_of (edge_with (output_of m) a source None)) (idle_stands m p.idle)
+part_at m source remaining.Nothing p none = grind (arith, idle_stands)
 part_at m source _ p none = absurd (cc)
 
 pub is_part_at : (m : Machine) (source : ℕ) (left : Remaining) → IsAtEdge m source left → (edge_of m source left).to_come ≡ None
@@ -166,60 +141,37 @@ before_at m source line e = ap (λ (a : At (Budgeted State)). begun_from a line.
 pub begun : (old new : Machine) (source : ℕ) (line : SourceLine) → machine.is_idle old ≡ true → Begins line.text line.number old new
     → edge_of new (source + 1) remaining.Run ≡ run_begun (edge_of old source remaining.Nothing) line
 unfolding run_line
-begun old new source line idle b =
-    let e = before_at old source line (idle_stands old idle) in
-    let outcome = b.outcome ∙ sym (ap (run_page (language_of old) (line.text ∷ [])) e) in
-    ap (λ (o : Output). begun_with o (outcome_of new) (source + 1)) b.output
-    ∙ ap (λ (a : At (Budgeted State)). begun_with (output_of old) a (source + 1)) outcome
+begun old new source line idle b = grind (arith, before_at, idle_stands)
 
 -- a line that was taken at once is all that the line gives
 gives_taken : (old new : Machine) (source : ℕ) (taken : TakenLine) (line : SourceLine) → machine.is_idle old ≡ true
     → Takes taken line.text line.number old new
     → stands_after (takes taken ∷ []) new ≡ run_line (edge_of old source remaining.Nothing) line
 unfolding run_line
-gives_taken old new source taken line idle t =
-    let e = before_at old source line (idle_stands old idle) in
-    t.outcome ∙ sym (ap (run_page (language_of old) (line.text ∷ [])) e)
+gives_taken old new source taken line idle t = grind (arith, before_at, idle_stands)
 
 gives_alone : (old new : Machine) (source : ℕ) (taken : TakenLine) (line : SourceLine) → machine.is_idle old ≡ true
     → Takes taken line.text line.number old new
     → line_given (edge_of old source remaining.Nothing) line ≡ takes taken ∷ []
-gives_alone old new source taken line idle t =
-    sym (ap (λ (a : At (Budgeted State)). a.state.rest.out) (gives_taken old new source taken line idle t))
+gives_alone old new source taken line idle t = grind (arith, gives_taken)
 
 -- it is kept, to be given
 kept_line : (old new : Machine) (source : ℕ) (taken : TakenLine) (line : SourceLine) → machine.is_idle old ≡ true
     → Takes taken line.text line.number old new → new.actions.line ≡ taken
     → edge_of new (source + 1) remaining.Line ≡ run_begun (edge_of old source remaining.Nothing) line
-kept_line old new source taken line idle t k =
-    let given = takes taken ∷ [] in
-    ap (λ (x : TakenLine). edge_with (output_of new) (outcome_of new) (source + 1) (Some (takes x ∷ []))) k
-    ∙ ap (λ (a : At (Budgeted State)). edge_with (output_of new) a (source + 1) (Some given)) (idle_stands new t.idle)
-    ∙ ap (λ (o : Output). begun_with o (stands_after given new) (source + 1)) t.output
-    ∙ ap (λ (a : At (Budgeted State)). begun_with (output_of old) a (source + 1)) (gives_taken old new source taken line idle t)
+kept_line old new source taken line idle t k = grind (arith, idle_stands, gives_taken)
 
 -- it is given, and the line is done
 line_is_done : (old new : Machine) (source : ℕ) (taken : TakenLine) (line : SourceLine) → machine.is_idle old ≡ true
     → Takes taken line.text line.number old new
     → edge_of new (source + 1) remaining.Nothing ≡ line_done (edge_of old source remaining.Nothing) line
-line_is_done old new source taken line idle t =
-    ap (λ (a : At (Budgeted State)). edge_with (output_of new) a (source + 1) None) (idle_stands new t.idle)
-    ∙ ap (λ (o : Output). edge_with o (stands_after (takes taken ∷ []) new) (source + 1) None) t.output
-    ∙ ap (λ (a : At (Budgeted State)). edge_with (output_of old) a (source + 1) None) (gives_taken old new source taken line idle t)
+line_is_done old new source taken line idle t = grind (arith, idle_stands, gives_taken)
 
 pub begun_counted : (e : RoffEdge) (line : SourceLine) → IsCounted e → e.source < 2 ^ 31 → length line.text ≤ LINE → IsCounted (run_begun e line)
-begun_counted e line c few short =
-    let t = taken_bound e line in
-    let s = done_room e line in
-    record { source = omega arith; taken = omega (arith, t, c.taken); skipped = omega (arith, s, c.skipped) }
+begun_counted e line c few short = grind (arith, taken_bound, done_room)
 
 pub room_to_begin : (m : Machine) (source : ℕ) → IsAtEdge m source remaining.Nothing → (m.budget.taken ≤ 2 ^ 62) × ((place_of m).levels.skipped < 2 ^ 62)
-room_to_begin m source p =
-    let e = idle_stands m p.idle in
-    let t : (outcome_of m).state.taken ≡ m.budget.taken = ap (λ (a : At (Budgeted State)). a.state.taken) e in
-    let s : (outcome_of m).place.levels.skipped ≡ (place_of m).levels.skipped = ap (λ (a : At (Budgeted State)). a.place.levels.skipped) e in
-    let c = p.counted in
-    (omega (arith, t, c.source, c.taken), omega (arith, s, c.source, c.skipped))
+room_to_begin m source p = grind (arith, idle_stands)
 
 -- ---- the next line
 
@@ -230,11 +182,7 @@ left_by false m next given e r = rw e refl
 
 pub advanced : {P S : Type 0} (left : P → S → List Message → Type 0) (old new : Machine) (source : ℕ) (s t : S) (result : Bool)
     → Advances left old s result new t → edge_of new source (run_if result) ≡ line_taken (edge_of old source remaining.Run)
-advanced left old new source s t result a =
-    ap (λ (o : Output). edge_with o (end_of new) source (given_by (run_if result) new)) a.output
-    ∙ ap (λ (x : At (Budgeted State)). edge_with (output_of old) x source (given_by (run_if result) new)) a.ends
-    ∙ ap (λ (c : Option (List Given)). edge_with (output_of old) (end_of old) source c)
-    (left_by result new (next_line (to_come old)) (after_line (to_come old)) a.line a.rest)
+advanced left old new source s t result a = grind (arith, left_by)
 
 -- ---- the code's object
 
@@ -246,9 +194,7 @@ pub none_in : (m : Machine) (source : ℕ) (left : Remaining) (r : LinesState) �
 none_in m source left r e none = ap (λ (x : LinesState). x.edge.to_come) e ∙ none
 
 pub few_in : (m : Machine) (source : ℕ) (left : Remaining) (r : LinesState) → state_of m source left ≡ r → r.edge.source < 2 ^ 31 → source < 2 ^ 31
-few_in m source left r e few =
-    let h : source ≡ r.edge.source = ap (λ (x : LinesState). x.edge.source) e in
-    omega (arith, h, few)
+few_in m source left r e few = grind arith
 
 idle_unless : (result : Bool) (m : Machine) → IsIdleUnless result m → IsIdleAs (run_if result) m
 idle_unless true m h = tt
@@ -274,17 +220,12 @@ at_nothing m source left p none = subst (IsAtEdge m source) (nothing_left m sour
 pub begin_edge : (old new : Machine) (source : ℕ) (left : Remaining) (line : List ℕ) (number : ℕ) → IsAtEdge old source left
     → (edge_of old source left).to_come ≡ None → Begins line number old new
     → edge_of new (source + 1) remaining.Run ≡ run_begun (edge_of old source left) (record { text = line; number = number; notes = [] })
-begin_edge old new source left line number p none b =
-    let s : SourceLine = record { text = line; number = number; notes = [] } in
-    let q = at_nothing old source left p none in
-    subst (λ (r : Remaining). edge_of new (source + 1) remaining.Run ≡ run_begun (edge_of old source r) s) (sym (nothing_left old source left none))
-    (begun old new source s q.idle b)
+begin_edge old new source left line number p none b = grind (arith, at_nothing, nothing_left, begun)
 
 -- the invariant at an edge after a line
 begun_invariant : (e : RoffEdge) (new : Machine) (source : ℕ) (left : Remaining) (line : SourceLine) → IsCounted e → e.source < 2 ^ 31
     → length line.text ≤ LINE → edge_of new (source + 1) left ≡ run_begun e line → IsIdleAs left new → IsAtEdge new (source + 1) left
-begun_invariant e new source left line c few t same idle =
-    at_edge new (source + 1) left (run_begun e line) same idle (begun_counted e line c few t)
+begun_invariant e new source left line c few t same idle = grind (arith, at_edge, begun_counted)
 
 pub begin_invariant : (old new : Machine) (source : ℕ) (left : Remaining) (line : List ℕ) (number : ℕ) → IsAtEdge old source left
     → (edge_of old source left).to_come ≡ None → Begins line number old new → source < 2 ^ 31 → length line ≤ LINE → IsAtEdge new (source + 1) remaining.Run
@@ -298,18 +239,12 @@ with_line line m = record m { actions = record m.actions { line = line } }
 
 kept_takes : (old new kept : Machine) (taken : TakenLine) (line : List ℕ) (number : ℕ) → Takes taken line number old new → kept ≡ with_line taken new
     → Takes taken line number old kept
-kept_takes old new kept taken line number t e =
-    let same : Takes taken line number old (with_line taken new) = record { output = t.output; idle = t.idle; short = t.short; outcome = t.outcome } in
-    subst (Takes taken line number old) (sym e) same
+kept_takes old new kept taken line number t e = grind arith
 
 pub keep_edge : (old new kept : Machine) (source : ℕ) (left : Remaining) (taken : TakenLine) (line : List ℕ) (number : ℕ) → IsAtEdge old source left
     → (edge_of old source left).to_come ≡ None → Takes taken line number old new → kept ≡ with_line taken new
     → edge_of kept (source + 1) remaining.Line ≡ run_begun (edge_of old source left) (record { text = line; number = number; notes = [] })
-keep_edge old new kept source left taken line number p none t e =
-    let s : SourceLine = record { text = line; number = number; notes = [] } in
-    let q = at_nothing old source left p none in
-    subst (λ (r : Remaining). edge_of kept (source + 1) remaining.Line ≡ run_begun (edge_of old source r) s) (sym (nothing_left old source left none))
-    (kept_line old kept source taken s q.idle (kept_takes old new kept taken line number t e) (ap (λ (m : Machine). m.actions.line) e))
+keep_edge old new kept source left taken line number p none t e = grind (arith, at_nothing, nothing_left, kept_line, kept_takes)
 
 pub keep_invariant : (old new kept : Machine) (source : ℕ) (left : Remaining) (taken : TakenLine) (line : List ℕ) (number : ℕ) → IsAtEdge old source left
     → (edge_of old source left).to_come ≡ None → Takes taken line number old new → kept ≡ with_line taken new → source < 2 ^ 31 → length line ≤ LINE
@@ -370,12 +305,7 @@ line_invariant m source _ p e = absurd (cc)
 pub line_runs_on : {P S : Type 0} (left : P → S → List Message → Type 0) (m : Machine) (source : ℕ) (r : Remaining) (old : LinesState) (s : S)
     → IsAtEdge m source r → r ≡ remaining.Line → state_of m source r ≡ old
     → RunsOn left old s true (state_of m source remaining.End) s
-line_runs_on left m source remaining.Line old s p e v =
-    rw (← v) (record {
-      came = λ plan more h. h;
-      line = refl;
-      edge = refl;
-    })
+line_runs_on left m source remaining.Line old s p e v = grind arith
 line_runs_on left m source _ old s p e v = absurd (cc)
 
 -- after its end was reported
@@ -388,16 +318,13 @@ told_invariant m source _ p e = absurd (cc)
 
 pub told_runs_on : {P S : Type 0} (left : P → S → List Message → Type 0) (m : Machine) (source : ℕ) (r : Remaining) (old : LinesState) (s : S)
     → r ≡ remaining.End → state_of m source r ≡ old → RunsOn left old s false (state_of m source remaining.Nothing) s
-told_runs_on left m source remaining.End old s e v =
-    rw (← v) (record { came = λ plan more h. h; line = refl; edge = refl })
+told_runs_on left m source remaining.End old s e v = grind arith
 told_runs_on left m source _ old s e v = absurd (cc)
 
 -- after the next line, or at the end
 advance_done : {P S : Type 0} (left : P → S → List Message → Type 0) (old new : Machine) (source : ℕ) (s t : S) (result : Bool)
     → IsAtEdge old source remaining.Run → Advances left old s result new t → IsAtEdge new source (run_if result)
-advance_done left old new source s t result p a =
-    at_edge new source (run_if result) (line_taken (edge_of old source remaining.Run)) (advanced left old new source s t result a) (idle_unless result new a.idle)
-    (record { source = p.counted.source; taken = p.counted.taken; skipped = p.counted.skipped })
+advance_done left old new source s t result p a = grind (arith, at_edge, advanced, idle_unless)
 
 -- it runs on where the machine has something to run
 pub advance_at : {P S : Type 0} (left : P → S → List Message → Type 0) (old new : Machine) (source : ℕ) (r : Remaining) (s t : S) (result : Bool)
@@ -408,48 +335,28 @@ advance_at left old new source _ s t result p e a = absurd (cc)
 pub runs_on : {P S : Type 0} (left : P → S → List Message → Type 0) (old new : Machine) (source : ℕ) (r : Remaining) (x : LinesState) (s t : S) (result : Bool)
     → IsAtEdge old source r → r ≡ remaining.Run → state_of old source r ≡ x → Advances left old s result new t
     → RunsOn left x s result (state_of new source (run_if result)) t
-runs_on left old new source remaining.Run x s t result p e v a =
-    rw (← v) (record {
-      came = a.came;
-      line = a.line;
-      edge = advanced left old new source s t result a;
-    })
+runs_on left old new source remaining.Run x s t result p e v a = grind (arith, advanced)
 runs_on left old new source _ x s t result p e v a = absurd (cc)
 
 -- where all was given, the machine is at the page's edge
 pub counts_at : (m : Machine) (source : ℕ) (left : Remaining) → IsAtEdge m source left → (edge_of m source left).to_come ≡ None
     → counts source m.budget.taken m.actions.memory.expansions ≡ counts_of (edge_of m source left)
-counts_at m source remaining.Nothing p none =
-    ap (λ (a : At (Budgeted State)). counts source a.state.taken a.state.rest.memory.expansions) (sym (idle_stands m p.idle))
+counts_at m source remaining.Nothing p none = grind (arith, idle_stands)
 counts_at m source _ p none = absurd (cc)
 
 pub fits_at : (m : Machine) (source : ℕ) (left : Remaining) → IsAtEdge m source left → (edge_of m source left).to_come ≡ None
     → PlaceFits (place_of m) → MemoryFits m.actions.memory → RoffFits (edge_of m source left)
-fits_at m source remaining.Nothing p none f g =
-    let e = sym (idle_stands m p.idle) in
-    record {
-      memory = subst (λ (a : At (Budgeted State)). MemoryFits a.state.rest.memory) e g;
-      place = subst (λ (a : At (Budgeted State)). PlaceFits a.place) e f;
-    }
+fits_at m source remaining.Nothing p none f g = grind (arith, idle_stands)
 fits_at m source _ p none f g = absurd (cc)
 
 pub end_notes_at : (m : Machine) (source : ℕ) (left : Remaining) → IsAtEdge m source left → (edge_of m source left).to_come ≡ None
     → end_notes (edge_of m source left) ≡ machine.end_notes m
-end_notes_at m source remaining.Nothing p none =
-    ap (λ (a : At (Budgeted State)). (finish_outcome a.place.region a.place.levels.in_loop false a.state.rest.memory).notes) (idle_stands m p.idle)
+end_notes_at m source remaining.Nothing p none = grind (arith, idle_stands)
 end_notes_at m source _ p none = absurd (cc)
 
 ended_counted : (old new : Machine) (source : ℕ) → machine.is_idle old ≡ true → machine.is_idle new ≡ true → new.stack ≡ old.stack → new.budget ≡ old.budget
     → IsCounted (edge_of old source remaining.Nothing) → IsCounted (edge_of new source remaining.Nothing)
-ended_counted old new source i j s b c =
-    let o = idle_stands old i in
-    let n = idle_stands new j in
-    let t : (outcome_of new).state.taken ≡ (outcome_of old).state.taken =
-    ap (λ (a : At (Budgeted State)). a.state.taken) n ∙ ap (λ (x : Budget). x.taken) b ∙ sym (ap (λ (a : At (Budgeted State)). a.state.taken) o) in
-    let k : (outcome_of new).place.levels.skipped ≡ (outcome_of old).place.levels.skipped =
-    ap (λ (a : At (Budgeted State)). a.place.levels.skipped) n ∙ ap (λ (x : stack.Stack). x.top.cursor.levels.skipped) s
-    ∙ sym (ap (λ (a : At (Budgeted State)). a.place.levels.skipped) o) in
-    record { source = c.source; taken = omega (arith, t, c.taken); skipped = omega (arith, k, c.skipped) }
+ended_counted old new source i j s b c = grind (arith, idle_stands)
 
 pub end_invariant : (old new : Machine) (source : ℕ) (left : Remaining) → IsAtEdge old source left → (edge_of old source left).to_come ≡ None
     → new.stack ≡ old.stack → new.budget ≡ old.budget → new.actions.memory ≡ machine.end_memory old → IsAtEdge new source left

@@ -157,8 +157,7 @@ module _ (units : List ℕ → ℕ) where
         → turn_after n (is_true, new b)
         ≡ new (run_if is_true (λ s. turns_old n (langs.run_body lang (inside depth (body args)) lines s)) b)
     unfolding run_if
-    turn_run n further true b =
-        ap (λ s. turns_new n s) (body_law depth args so lines b) ∙ further (langs.run_body lang (inside depth (body args)) lines b)
+    turn_run n further true b = grind (arith, body_law)
     turn_run n further false b = refl
 
     turn_by_law : (n : ℕ) → Turns n → (g : Bool) (b : Old)

@@ -1,5 +1,5 @@
 -- What a source does by `Runs` is what the machine's steps do, part by part and line by line: helpers of proofs.
-use Rattle.std.proofs.Common.{◌≡◌, ℕ, zero, suc, Bool, true, false, not, ◌&&◌, nat_lt, if◌then◌else◌, List, [], ◌∷◌, Option, Some, None, refl, sym, ap, ◌∙◌, length}
+use Rattle.std.proofs.Common.{arith, ◌≡◌, ℕ, zero, suc, Bool, true, false, not, ◌&&◌, nat_lt, if◌then◌else◌, List, [], ◌∷◌, Option, Some, None, refl, sym, ap, ◌∙◌, length}
 use Rattle.page_core_base.specs.Limits.{CONDS}
 use Rattle.page_roff_heads.specs.declared.conditions.Condition.{Condition}
 use Rattle.page_roff_heads.specs.declared.loops.LoopHead.{LoopHead}
@@ -19,7 +19,7 @@ use Rattle.page_roff_blocks.specs.machine.Steps as old
 use Rattle.page_roff_blocks.specs.machine.Steps.{Meaning, met, step_leaf, step_guard, guard_met, guard_with, step_block, block_met, opening_met, block_with, step_loop, step_end, step_parts, step_inside, step_from, begin_line, collect_if, each_line}
 use Rattle.page_roff_blocks.specs.machine.Languages.{Budgeted}
 use Rattle.page_roff_syntax.specs.declared.region_heads.RegionHead.{RegionHead}
-use Rattle.page_roff_syntax.specs.Regions.{Opened, opened, end_name, is_ending}
+use Rattle.page_roff_syntax.specs.Regions.{Opened, opened, is_ending}
 use Rattle.page_roff_effects.specs.States.{block_outcome, end_of_block_outcome}
 use Rattle.page_roff_effects.specs.Lines.{leaf_outcome}
 use Rattle.page_roff_effects.specs.Regions.{loop_outcome, head_outcome, line_outcome, end_outcome}
@@ -104,7 +104,7 @@ module _ {X : Type 0} (text : X → List ℕ) (start : X → State → State) (h
   loop_by : (h : LoopHead (List ℕ)) (l : Levels) (is_met : Bool) (b : Old)
       → past (l, if is_met then close_loop a (after (loop_outcome h b.rest.memory) (new b)) else new b) ≡ spot (after_part l) (old.loop_if m is_met h b)
   unfolding after_part old.loop_if
-  loop_by h l true b = ap (λ s. past (l, close_loop a s)) (al.opens_loop h b) ∙ ap (λ s. past (l, s)) (al.closes_loop (m.opens_loop h b))
+  loop_by h l true b = grind arith
   loop_by h l false b = refl
 
   loop_law : (h : LoopHead (List ℕ)) (c : BlockCursor) (b : Old) → loop_after a h (spot c b) ≡ spot_of (step_loop m h c b)
@@ -156,9 +156,7 @@ module _ {X : Type 0} (text : X → List ℕ) (start : X → State → State) (h
       → past (if is_met then enter_run a h (lv bit o false 0) (new b) else (lv bit o false 1, new b))
       ≡ spot_of (block_met m is_met h (cursor (lv bit o false 0) begun passing) b)
   unfolding enter_run block_met opening_met block_with levels.open_loop levels.skip after_part
-  enter_by (openings.Conditional h) bit o begun passing true b =
-      ap (λ v. past (enter_if a v.0 h (lv (bit_after h.branch v.0 bit) o false 0, v.1))) (value_law h.branch bit b)
-      ∙ enter_value h bit o (old.value m h.branch bit b).0 (old.value m h.branch bit b).1
+  enter_by (openings.Conditional h) bit o begun passing true b = grind (arith, value_law, enter_value)
   enter_by (openings.Loop h) bit o begun passing true b = ap (λ s. past (lv bit o true 0, s)) (al.opens_loop h b)
   enter_by h bit o begun passing false b = refl
 
@@ -198,14 +196,12 @@ module _ {X : Type 0} (text : X → List ℕ) (start : X → State → State) (h
   read_law : (in_loop : Bool) (o : Opened) (x : X) (b : Old)
       → region_line a text start (line_outcome a.setting) in_loop o x (new b) ≡ new (old.keep_if m in_loop (text x) (m.reads o (text x) (head x b)))
   unfolding region_line
-  read_law in_loop o x b =
-      ap (λ s. gather_some (if in_loop then Some (text x) else None) s) (al.reads o x b) ∙ keep_law in_loop (text x) (m.reads o (text x) (head x b))
+  read_law in_loop o x b = grind (arith, keep_law)
 
   end_law : (in_loop : Bool) (o : Opened) (x : X) (b : Old)
       → region_end a text start in_loop o x (new b) ≡ new (old.keep_if m in_loop (text x) (m.ends_region o (text x) (head x b)))
   unfolding region_end region_line
-  end_law in_loop o x b =
-      ap (λ s. gather_some (if in_loop then Some (text x) else None) s) (al.ends_region o x b) ∙ keep_law in_loop (text x) (m.ends_region o (text x) (head x b))
+  end_law in_loop o x b = grind (arith, keep_law)
 
   gather_law : (bit : Bool) (o : List Bool) (i : Bool) (n : ℕ) (t : List ℕ) (b : Old)
       → gather_line (mode (lv bit o i n)) t (new b) ≡ new (collect_if m i n t b)
@@ -284,12 +280,7 @@ module _ {X : Type 0} (text : X → List ℕ) (start : X → State → State) (h
   parts_law (End ∷ rest) xs c b =
       let r = step_end m c b in
       ap (λ w. run_source a text start (line_of rest (source_of text xs) (inside_of text xs)) w) (leave_law c b) ∙ parts_law rest xs r.0 r.1
-  parts_law (Region r ∷ rest) xs c b =
-      let inside = inside_of text xs (end_name r) in
-      let q = met m c b in
-      after_head r inside (spot c b)
-      ∙ ap (λ q. run_inside a text start (opened r q.0) inside c.levels (after (head_outcome r q.0 q.1.memory) q.1)) (meet_law c b)
-      ∙ ap (λ s. run_inside a text start (opened r q.0) inside c.levels s) (al.opens_region r q.0 q.1)
+  parts_law (Region r ∷ rest) xs c b = grind (arith, after_head, meet_law)
 
   kept : (o : Opened) (x : X) (inside : Inside X) (l : Levels) (s : State)
       → run_inside a text start o (keep x inside) l s
@@ -303,8 +294,7 @@ module _ {X : Type 0} (text : X → List ℕ) (start : X → State → State) (h
       ≡ from xs (step_inside m is_end o (text x) l (head x b))
   unfolding forests.region_line run_inside region_lines step_inside run_from
   inside_law true x xs o l b = ap (λ s. run_source a text start (source_of text xs) (fresh l s)) (end_law l.in_loop o x b)
-  inside_law false x xs o l b =
-      kept o x (inside_of text xs o.ending) l (new b) ∙ ap (λ s. run_inside a text start o (inside_of text xs o.ending) l s) (read_law l.in_loop o x b)
+  inside_law false x xs o l b = grind (arith, kept, read_law)
 
   line_law : (x : X) (xs : List X) (o : Option Opened) (l : Levels) (b : Old)
       → run_from a text start (x ∷ xs) o l (new b) ≡ from xs (step_from m o (text x) l (head x b))
@@ -325,4 +315,4 @@ module _ {X : Type 0} (text : X → List ℕ) (start : X → State → State) (h
   pub lines_law : (xs : List X) (p : old.At Old) → run_lines a text start xs (at p) ≡ at (each_line m text head xs p)
   unfolding each_line old.step
   lines_law [] p = no_line p.place.region p.place.levels (new p.state)
-  lines_law (x ∷ xs) p = line_law x xs p.place.region p.place.levels p.state ∙ lines_law xs (old.step m (text x) (old.after_head m text head x p))
+  lines_law (x ∷ xs) p = grind (arith, line_law, lines_law xs (old.step m (text x) (old.after_head m text head x p)))

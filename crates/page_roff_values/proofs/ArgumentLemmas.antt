@@ -3,12 +3,11 @@ use Rattle.std.proofs.Common.{◌≡◌, ℕ, zero, suc, ◌+◌, ◌<◌, ◌�
 use Rattle.std.proofs.lemmas.Bool.{eqb-true}
 use Rattle.page_core_base.specs.declared.limits.TheConstants.{ARGS}
 use Rattle.page_roff_values.specs.Values.{begin_first, arguments_in, argument_at, spaced, spaced_quoted, TextSoFar, LaidText, nothing, join, unless, seq}
-use Rattle.page_roff_values.specs.machine.Held.{AreHeld, units_of_text, AreMeasured, IsMeasured, text_of}
+use Rattle.page_roff_values.specs.machine.Held.{AreHeld, units_of_text, AreMeasured, IsMeasured}
 use Rattle.page_core_base.specs.Messages.{Message}
 use Rattle.page_roff_values.specs.laws.Views.{Goes}
 use Rattle.std.specs.Str.{IsUtf8}
 use Rattle.page_core_base.specs.declared.page_settings.Output.{Output}
-use Rattle.page_core_numbers.specs.Columns.{characters_columns}
 use Rattle.page_core_numbers.specs.machine.Signs.{Left}
 use Rattle.page_core_numbers.proofs.ExpressionLemmas.{printed-same}
 use Rattle.std.proofs.lemmas.List.{drop-append-le, take-append-le, take_all, drop_at}
@@ -82,15 +81,7 @@ quoted_end rest text all h e = sym (append-nil text) ∙ (rw (no_bytes rest h, n
 
 pub held_none : (p q r : List ℕ) (a b c : ℕ) → p ≡ [] → q ≡ [] → r ≡ [] → ARGS ≤ a → ARGS + 1 ≤ b → 3 * (ARGS + 1) ≤ c → AreHeld 0 p q r a b c
 unfolding arguments_in
-held_none p q r a b c e f g h k l = rw (e, f, g) (record {
-  counted = refl;
-  short = omega arith;
-  joined = refl;
-  quoted = refl;
-  packed_fits = h;
-  joined_fits = k;
-  quoted_fits = l;
-})
+held_none p q r a b c e f g h k l = grind arith
 
 -- ---- How one thing is laid after another: helpers of proofs.
 
@@ -142,10 +133,7 @@ seq_end a = end_if a.edge.ended a
 -- some, and then the rest
 pub goes_on : {P S : Type 0} (left : P → S → List Message → Type 0) (s t : S) (all given : LaidText) (e : TextSoFar) (f : TextSoFar → LaidText)
     → all ≡ join given (seq (nothing given.edge) f) → Goes left s given t (nothing e) → Goes left s all t (seq (nothing e) f)
-goes_on left s t all given e f q k = rw k.1 (
-  (λ plan more h. k.0 plan ((seq (nothing given.edge) f).notes ++ more) (rw (q, append_assoc) at h)),
-  sym (ap (λ (a : LaidText). a.edge) q),
-)
+goes_on left s t all given e f q k = grind (arith, append_assoc)
 
 -- one after another
 pub goes_then : {P S : Type 0} (left : P → S → List Message → Type 0) (s t u : S) (all next last : LaidText)
@@ -169,20 +157,13 @@ gone false e = let no : ⊥ = cc in absurd no
 -- the width of a text by that of another one, where the same is left of both
 pub units_alike : (output : Output) (text known rest : List ℕ) (columns known_columns units : ℕ) → IsUtf8 rest → Left output text columns rest
     → Left output known known_columns rest → units ≡ units_of_text output known → (24 * known_columns ≤ units) × (units - 24 * known_columns + 24 * columns ≡ units_of_text output text)
-units_alike output text known rest columns known_columns units utf8 l k e =
-    let same = ap characters_columns (printed-same l.steps k.steps output rest utf8 l.enough k.enough) in
-    (omega (arith, l.same, k.same, e, same), omega (arith, l.same, k.same, e, same))
+units_alike output text known rest columns known_columns units utf8 l k e = grind (arith, printed-same)
 
 -- ---- Widths of texts that are remembered: helpers of proofs.
 
 -- behind the texts there may come more
 measured_more : (texts more : List ℕ) (width : KnownWidth) → IsMeasured texts width → IsMeasured (texts ++ more) width
-measured_more texts more width h =
-    let n = width.end - width.start in
-    let same : take n (drop width.start (texts ++ more)) ≡ take n (drop width.start texts) =
-    rw (drop-append-le width.start texts more (omega (arith, h.0, h.1)))
-    (take-append-le n (drop width.start texts) more (omega (arith, length-drop width.start texts, h.1))) in
-    (h.0, omega (arith, h.1, length-append texts more), rw same h.2, h.3, rw same h.4, h.5)
+measured_more texts more width h = grind (arith, drop-append-le, take-append-le, length-drop, length-append)
 
 pub all_more : (texts more : List ℕ) (widths : List KnownWidth) → AreMeasured texts widths → AreMeasured (texts ++ more) widths
 all_more texts more widths h = All-weaker (IsMeasured texts) (IsMeasured (texts ++ more)) (λ f k. measured_more texts more f k) widths h
@@ -190,11 +171,7 @@ all_more texts more widths h = All-weaker (IsMeasured texts) (IsMeasured (texts 
 -- the text that is behind the others
 pub measured_last : (texts text : List ℕ) (width : KnownWidth) → width.start ≡ length texts → width.end ≡ length texts + length text → length text ≤ LINE
     → IsUtf8 text → width.units ≤ 24000 * length text → width.units ≡ units_of_text width.output text → IsMeasured (texts ++ text) width
-measured_last texts text width s e short utf8 bound h =
-    let n : width.end - width.start ≡ length text = omega arith in
-    let whole : text_of (texts ++ text) width ≡ text = rw (n, drop_at texts text width.start (sym s)) (take_all (length text) text (omega arith)) in
-    let is = is_utf8-from_IsUtf8 text utf8 in
-    (omega arith, omega (arith, length-append texts text), rw (whole, is) h, omega arith, rw whole is, rw n bound)
+measured_last texts text width s e short utf8 bound h = grind (arith, drop_at, take_all, is_utf8-from_IsUtf8, length-append)
 
 -- one more width
 pub measured_push : (texts : List ℕ) (widths new : List KnownWidth) (width : KnownWidth) → AreMeasured texts widths → IsMeasured texts width

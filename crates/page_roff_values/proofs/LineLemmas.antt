@@ -1,16 +1,16 @@
 -- What an interpolation does, before the rest of the texts: helpers of proofs.
 use Rattle.std.specs.Fmt.{signed_decimal, decimal}
-use Rattle.std.proofs.Common.{◌≡◌, ℕ, zero, suc, ◌+◌, ◌-◌, ◌*◌, ◌^◌, ◌<◌, ◌≤◌, true, false, nat_lt, List, ◌∷◌, length, codes, ℤ, Some, None, refl, sym, ap, ◌∙◌, arith, ◌==◌, Bool, nat_le, [], ◌++◌, take, get_or, ◌&&◌, if◌then◌else◌, Option, length-append, drop, unwrap_or, append_assoc, append-nil, length-take}
+use Rattle.std.proofs.Common.{◌≡◌, ℕ, zero, suc, ◌+◌, ◌-◌, ◌*◌, ◌^◌, ◌<◌, ◌≤◌, true, false, nat_lt, List, ◌∷◌, length, codes, ℤ, Some, None, refl, sym, ap, ◌∙◌, arith, ◌==◌, Bool, [], ◌++◌, take, get_or, if◌then◌else◌, Option, length-append, drop, append_assoc, append-nil, length-take}
 use Rattle.std.proofs.Math.Nat.{mul-suc, mul-le-mul_left, sub-zero}
 use Rattle.std.proofs.lemmas.Bool.{ltb-true, le-leb, leb-true, eqb-true}
-use Rattle.page_core_base.specs.declared.note_kinds.NoteKind.TheVariants.{Loop, UndefString, ArgOutside, Limit}
+use Rattle.page_core_base.specs.declared.note_kinds.NoteKind.TheVariants.{Loop, UndefString, ArgOutside}
 use Rattle.page_core_base.specs.Messages.{Message}
 use Rattle.page_roff_names.specs.Names.{string_of}
 use Rattle.page_core_base.specs.declared.limits.TheConstants.{EXPAND, LINE}
 use Rattle.page_roff_parts.specs.declared.parts.Call.{Call}
 use Rattle.page_roff_parts.specs.declared.parts.Call.TheVariants.{String, Register, Argument, Width}
 use Rattle.page_roff_values.specs.Values.{argument_of, Surroundings, register_of, TextSoFar, LaidText, nothing, join, seq, says, ends, counts, put, charge, width, interpolated, call_at, value, unless, adds, kept, character_end, lay, value_or, inside, leaves, start, expanded, finished_len, NEST}
-use Rattle.page_roff_parts.specs.Parts.{without_lone, copies, seen, parts, parts_up_to, plain, after_plain}
+use Rattle.page_roff_parts.specs.Parts.{without_lone, copies, seen, parts, parts_up_to}
 use Rattle.page_roff_values.specs.laws.Views.{Goes, IsWithin}
 use Rattle.page_roff_values.specs.machine.Rest.{HUGE, calling, going_on, rest, room_in, size, steps, GivesItself}
 use Rattle.page_roff_values.proofs.ArgumentLemmas.{goes_on, goes_same, seq_more, seq_nothing, seq_end}
@@ -22,9 +22,6 @@ use Rattle.page_roff_parts.specs.declared.parts.Part.{Part}
 use Rattle.page_roff_parts.specs.declared.parts.Part.TheVariants.{Copied, Called}
 use Rattle.page_roff_parts.proofs.FrontLemmas.{parts_more, plain_part, front_whole, map_is}
 use Rattle.page_roff_parts.specs.machine.Verbatim.{IsFront, copied_front, IsVerbatim}
-use Rattle.std.proofs.lemmas.List.{take-append-le}
-use Rattle.page_core_base.specs.Limits.{name_of}
-use Rattle.page_core_base.specs.declared.limits.Limit.TheVariants as limits
 
 ended_at : (env : Surroundings) (d : ℕ) (call : Call (List ℕ)) (s : TextSoFar) → nat_lt s.count EXPAND ≡ false
     → call_at env d call s ≡ ends Loop (codes "EXPAND") s
@@ -48,8 +45,7 @@ pub call_deep : (env : Surroundings) (room : ℕ) (t : List ℕ) (ts : List (Lis
     → nat_lt s.count EXPAND ≡ true → room ≤ length ts
     → seq (call_at env (room_in room (t ∷ ts)) call s) f ≡ join (says Loop (codes "NEST") (counts s)) (seq (nothing (counts s)) f)
 unfolding room_in
-call_deep env room t ts call s f h l =
-    ap (λ a. seq a f) (deep_at env (room - length ts) call s h (omega arith)) ∙ seq_more (says Loop (codes "NEST") (counts s)) f
+call_deep env room t ts call s f h l = grind (arith, deep_at, seq_more, codes)
 
 interpolates_at : (env : Surroundings) (d e : ℕ) (call : Call (List ℕ)) (s : TextSoFar) → nat_lt s.count EXPAND ≡ true → d ≡ suc e
     → call_at env d call s ≡ interpolated env (value env e) call (counts s)
@@ -61,8 +57,7 @@ call_gives : (env : Surroundings) (room d : ℕ) (t : List ℕ) (ts : List (List
     → nat_lt s.count EXPAND ≡ true → length ts + suc d ≡ room → interpolated env (value env d) call (counts s) ≡ given
     → seq (call_at env (room_in room (t ∷ ts)) call s) f ≡ join given (seq (nothing given.edge) f)
 unfolding room_in
-call_gives env room d t ts call s f given h l e =
-    ap (λ a. seq a f) (interpolates_at env (room - length ts) d call s h (omega arith) ∙ e) ∙ seq_more given f
+call_gives env room d t ts call s f given h l e = grind (arith, interpolates_at, seq_more)
 
 -- one with a value: that is read before the rest
 call_enters : (env : Surroundings) (room d : ℕ) (t : List ℕ) (ts : List (List ℕ)) (call : Call (List ℕ)) (w : List ℕ) (s : TextSoFar)
@@ -70,10 +65,7 @@ call_enters : (env : Surroundings) (room d : ℕ) (t : List ℕ) (ts : List (Lis
     → interpolated env (value env d) call (counts s) ≡ value env d w (counts s)
     → seq (call_at env (room_in room (t ∷ ts)) call s) (rest env room (t ∷ ts)) ≡ seq (nothing (counts s)) (rest env room (w ∷ t ∷ ts))
 unfolding room_in rest
-call_enters env room d t ts call w s g h l e =
-    let k : d ≡ room - length (t ∷ ts) = omega arith in
-    ap (λ a. seq a (rest env room (t ∷ ts))) (interpolates_at env (room - length ts) d call s h (omega arith) ∙ e)
-    ∙ (ap (λ n. seq (value env n w (counts s)) (rest env room (t ∷ ts))) k ∙ sym (seq_nothing (counts s) (rest env room (w ∷ t ∷ ts)) g))
+call_enters env room d t ts call w s g h l e = grind (arith, interpolates_at, seq_nothing)
 
 -- the same of what was given: it is laid before the rest, or the value is read before it
 pub gives : {P S : Type 0} (left : P → S → List Message → Type 0) (old new : S) (env : Surroundings) (room d : ℕ) (t : List ℕ) (ts : List (List ℕ)) (call : Call (List ℕ))
@@ -163,14 +155,14 @@ end_le_if false m n h = omega arith
 
 end_le : (text : List ℕ) (n : ℕ) → character_end text n ≤ n
 end_le text zero = omega arith
-end_le text (suc n) = let h = end_le text n in end_le_if (nat_le 128 (get_or text (suc n) 0) && nat_lt (get_or text (suc n) 0) 192) (character_end text n) n (omega arith)
+end_le text (suc n) = grind (arith, end_le text n, end_le_if)
 
 kept_if : (b : Bool) (m n k : ℕ) → (b ≡ true → m ≤ k) → n ≤ k → (if b then m else n) ≤ k
 kept_if true m n k h l = h refl
 kept_if false m n k h l = l
 
 kept_le : (text : List ℕ) (room : ℕ) → kept text room ≤ room
-kept_le text room = kept_if (nat_le (length text) room) (length text) (character_end text room) room (leb-true (length text) room) (end_le text room)
+kept_le text room = grind (arith, kept_if, leb-true, end_le)
 
 take_le : (n : ℕ) (xs : List ℕ) → length (take n xs) ≤ n
 take_le zero xs = omega arith
@@ -179,13 +171,7 @@ take_le (suc n) (x ∷ xs) = let h = take_le n xs in omega arith
 
 put_within : (run : List ℕ) (s : TextSoFar) → IsWithin s → IsWithin (put run s).edge
 unfolding put
-put_within run s h =
-    let end = kept run (LINE - finished_len s) in
-    let l = kept_le run (LINE - finished_len s) in
-    let m = take_le end run in
-    let k : length (s.text ++ take end run) ≤ LINE = rw (length-append s.text (take end run)) (let t = h.text in omega arith) in
-    if_within (nat_lt end (length run)) (ends Limit (codes "LINE") (adds (take end run) s)) (nothing (adds (take end run) s))
-    (λ e. record { text = k; count = h.count }) (λ e. record { text = k; count = h.count })
+put_within run s h = grind (arith, kept_le, take_le, length-append, if_within, codes)
 
 lay_within : (call : Call (List ℕ) → TextSoFar → LaidText) → ((c : Call (List ℕ)) (s : TextSoFar) → IsWithin s → IsWithin (call c s).edge)
     → (ps : List (Part (List ℕ))) (s : TextSoFar) → IsWithin s → IsWithin (lay call ps s).edge
@@ -196,9 +182,7 @@ lay_within call k (Called c ∷ ps) s h = seq_within (call c s) (lay call ps) (k
 
 charge_within : (f : TextSoFar → LaidText) (s : TextSoFar) → ((t : TextSoFar) → IsWithin t → IsWithin (f t).edge) → IsWithin s → IsWithin (charge f s).edge
 unfolding charge
-charge_within f s k h =
-    if_within (nat_lt s.count EXPAND) (f (counts s)) (ends Loop (codes "EXPAND") s)
-    (λ e. let l = ltb-true s.count EXPAND e in k (counts s) (record { text = h.text; count = omega arith })) (λ e. record { text = h.text; count = h.count })
+charge_within f s k h = grind (arith, if_within, codes, ltb-true)
 
 or_within : (kind : NoteKind) (detail : List ℕ) (o : Option (List ℕ)) (f : List ℕ → TextSoFar → LaidText) (s : TextSoFar)
     → ((text : List ℕ) (t : TextSoFar) → IsWithin t → IsWithin (f text t).edge) → IsWithin s → IsWithin (value_or kind detail o f s).edge
@@ -240,7 +224,7 @@ less_if n false e = refl
 
 pub put_all : (run : List ℕ) (s : TextSoFar) → length run ≤ LINE - finished_len s → put run s ≡ nothing (adds run s)
 unfolding put
-put_all run s h = rw (le-leb (length run) (LINE - finished_len s) h, less_if (length run) (nat_lt (length run) (length run)) refl, take-length run) refl
+put_all run s h = grind (arith, le-leb, less_if, take-length)
 
 -- it is what it gives
 pub plain_line : (env : Surroundings) (n : ℕ) (line : List ℕ) (r : Option ℕ) → IsFirstByte (is_byte 92) line r → is_none r ≡ true → length line ≤ LINE
@@ -277,9 +261,7 @@ Front = List ℕ × List (Part (List ℕ))
 lay_copied : (call : Call (List ℕ) → TextSoFar → LaidText) (n : ℕ) (ps qs : List (Part (List ℕ))) (x : List ℕ) (s : TextSoFar) → copied_front n ps ≡ Some (x, qs) → s.ended ≡ false
     → length x ≤ LINE - finished_len s → lay call ps s ≡ lay call qs (adds x s)
 unfolding lay
-lay_copied call zero ps qs x s e g h =
-    let is : ([] ≡ x) × (ps ≡ qs) = (ap (λ (o : Option Front). (unwrap_or o (x, qs)).0) e, ap (λ (o : Option Front). (unwrap_or o (x, qs)).1) e) in
-    rw (← is.0, is.1, append-nil s.text) refl
+lay_copied call zero ps qs x s e g h = grind (arith, append-nil)
 lay_copied call (suc n) [] qs x s e g h = let no : ⊥ = cc in absurd no
 lay_copied call (suc n) (Called c ∷ ps) qs x s e g h = let no : ⊥ = cc in absurd no
 lay_copied call (suc n) (Copied run ∷ ps) qs x s e g h =
@@ -295,20 +277,13 @@ lay_copied call (suc n) (Copied run ∷ ps) qs x s e g h =
 -- this many bytes are copied, and then what follows them is laid
 pub front_laid : (copy : Bool) (n : ℕ) (text : List ℕ) (call : Call (List ℕ) → TextSoFar → LaidText) (s : TextSoFar) → IsFront copy n text → s.ended ≡ false → n ≤ LINE - finished_len s
     → lay call (parts copy text) s ≡ lay call (parts copy (drop n text)) (adds (take n text) s)
-front_laid copy n text call s f e h =
-    lay_copied call n (parts copy text) (parts copy (drop n text)) (take n text) s f e (omega (arith, length-take n text))
+front_laid copy n text call s f e h = grind (arith, lay_copied, length-take)
 
 -- it is put before the rest is laid
 pub front_reads : (env : Surroundings) (room n : ℕ) (text : List ℕ) (ts : List (List ℕ)) (s : TextSoFar) → s.ended ≡ false → n ≤ LINE - finished_len s
     → IsFront env.copy n text → rest env room (text ∷ ts) s ≡ seq (put (take n text) s) (rest env room (drop n text ∷ ts))
 unfolding rest value
-front_reads env room n text ts s e h f =
-    let d = room - length ts in
-    rw (
-      front_laid env.copy n text (call_at env d) s f e h,
-      put_all (take n text) s (omega (arith, length-take n text)),
-      seq_nothing (adds (take n text) s) (rest env room (drop n text ∷ ts)) e,
-    ) refl
+front_reads env room n text ts s e h f = grind (arith, front_laid, put_all, length-take, seq_nothing)
 
 -- nothing was taken
 pub same_rest : (front text left : List ℕ) → (length front == 0) ≡ true → left ≡ drop (length front) text → left ≡ text
@@ -350,10 +325,7 @@ if_follows false s x y h k = k
 
 pub put_follows : (run : List ℕ) (s : TextSoFar) → Follows s (put run s).edge
 unfolding put
-put_follows run s =
-    let end = kept run (LINE - finished_len s) in
-    if_follows (nat_lt end (length run)) s (ends Limit (codes "LINE") (adds (take end run) s)) (nothing (adds (take end run) s))
-    (record { around = refl; count = omega arith }) (record { around = refl; count = omega arith })
+put_follows run s = grind (arith, if_follows, codes)
 
 put_count_if : (b : Bool) (x y : LaidText) (n : ℕ) → x.edge.count ≡ n → y.edge.count ≡ n → (if b then x else y).edge.count ≡ n
 put_count_if true x y n h k = h
@@ -375,9 +347,7 @@ counts_follow s = record { around = refl; count = omega arith }
 
 charge_follows : (f : TextSoFar → LaidText) (s : TextSoFar) → ((t : TextSoFar) → Follows t (f t).edge) → Follows s (charge f s).edge
 unfolding charge
-charge_follows f s k =
-    if_follows (nat_lt s.count EXPAND) s (f (counts s)) (ends Loop (codes "EXPAND") s)
-    (follows_then s (counts s) (f (counts s)).edge (counts_follow s) (k (counts s))) (record { around = refl; count = omega arith })
+charge_follows f s k = grind (arith, if_follows, codes, follows_then, counts_follow)
 
 or_follows : (kind : NoteKind) (detail : List ℕ) (o : Option (List ℕ)) (f : List ℕ → TextSoFar → LaidText) (s : TextSoFar)
     → ((text : List ℕ) (t : TextSoFar) → Follows t (f text t).edge) → Follows s (value_or kind detail o f s).edge
@@ -425,125 +395,3 @@ begins env room text s e = sym (seq_nothing s (rest env room (text ∷ [])) e �
 pub nest_is : NEST ≡ 16
 unfolding NEST
 nest_is = refl
-
--- ---- What is finished of a line stays as more is laid, and the bytes of a line before its first backslash are at the front of its value: helpers of proofs.
-
--- a text begins with another
-abbrev pub Begins : List ℕ → List ℕ → Type 0
-Begins xs ys = (zs : List ℕ) × (ys ≡ xs ++ zs)
-
-begins_same : (xs : List ℕ) → Begins xs xs
-begins_same xs = ([], sym (append-nil xs))
-
-begins_more : (xs ys : List ℕ) → Begins xs (xs ++ ys)
-begins_more xs ys = (ys, refl)
-
-begins_then : (xs ys us : List ℕ) → Begins xs ys → Begins ys us → Begins xs us
-begins_then xs ys us (zs, e) (ws, f) = (zs ++ ws, f ∙ ap (λ (l : List ℕ). l ++ ws) e ∙ append_assoc xs zs ws)
-
-unless_grows : (t : List ℕ) (b : Bool) (x y : LaidText) → Begins t x.edge.text → Begins t y.edge.text → Begins t (unless b x y).edge.text
-unless_grows t true x y h k = h
-unless_grows t false x y h k = k
-
-pub seq_grows : (t : List ℕ) (x : LaidText) (f : TextSoFar → LaidText) → Begins t x.edge.text → ((s : TextSoFar) → Begins s.text (f s).edge.text) → Begins t (seq x f).edge.text
-unfolding seq
-seq_grows t x f h k =
-    unless_grows t x.edge.ended x (f x.edge) h (begins_then t x.edge.text (f x.edge).edge.text h (k x.edge))
-
-if_grows : (t : List ℕ) (b : Bool) (x y : LaidText) → Begins t x.edge.text → Begins t y.edge.text → Begins t (if b then x else y).edge.text
-if_grows t true x y h k = h
-if_grows t false x y h k = k
-
-put_grows : (run : List ℕ) (s : TextSoFar) → Begins s.text (put run s).edge.text
-unfolding put
-put_grows run s =
-    let end = kept run (LINE - finished_len s) in
-    if_grows s.text (nat_lt end (length run)) (ends Limit (codes "LINE") (adds (take end run) s)) (nothing (adds (take end run) s))
-    (begins_more s.text (take end run)) (begins_more s.text (take end run))
-
-lay_grows : (call : Call (List ℕ) → TextSoFar → LaidText) → ((c : Call (List ℕ)) (s : TextSoFar) → Begins s.text (call c s).edge.text)
-    → (ps : List (Part (List ℕ))) (s : TextSoFar) → Begins s.text (lay call ps s).edge.text
-unfolding lay
-lay_grows call k [] s = begins_same s.text
-lay_grows call k (Copied run ∷ ps) s = seq_grows s.text (put run s) (lay call ps) (put_grows run s) (lay_grows call k ps)
-lay_grows call k (Called c ∷ ps) s = seq_grows s.text (call c s) (lay call ps) (k c s) (lay_grows call k ps)
-
-charge_grows : (f : TextSoFar → LaidText) (s : TextSoFar) → ((t : TextSoFar) → Begins t.text (f t).edge.text) → Begins s.text (charge f s).edge.text
-unfolding charge
-charge_grows f s k = if_grows s.text (nat_lt s.count EXPAND) (f (counts s)) (ends Loop (name_of limits.Expand) s) (k (counts s)) (begins_same s.text)
-
-or_grows : (kind : NoteKind) (detail : List ℕ) (o : Option (List ℕ)) (f : List ℕ → TextSoFar → LaidText) (s : TextSoFar)
-    → ((text : List ℕ) (t : TextSoFar) → Begins t.text (f text t).edge.text) → Begins s.text (value_or kind detail o f s).edge.text
-or_grows kind detail (Some text) f s k = k (without_lone text) s
-or_grows kind detail None f s k = begins_same s.text
-
-width_grows : (units : List ℕ → ℕ) (f : TextSoFar → LaidText) (s : TextSoFar) → Begins s.text (width units f s).edge.text
-unfolding width
-width_grows units f s =
-    let a = f (inside s) in
-    seq_grows s.text (leaves s a) (put (decimal (units a.edge.text))) (begins_same s.text) (put_grows (decimal (units a.edge.text)))
-
-interpolated_grows : (env : Surroundings) (f : List ℕ → TextSoFar → LaidText) (call : Call (List ℕ)) (s : TextSoFar)
-    → ((text : List ℕ) (t : TextSoFar) → Begins t.text (f text t).edge.text) → Begins s.text (interpolated env f call s).edge.text
-unfolding interpolated
-interpolated_grows env f (String name) s k = or_grows UndefString name (string_of name env.definitions) f s k
-interpolated_grows env f (Register name) s k = put_grows (signed_decimal (register_of name env)) s
-interpolated_grows env f (Argument escape) s k = or_grows ArgOutside escape (argument_of escape env.arguments) f s k
-interpolated_grows env f (Width text) s k = width_grows env.units (f text) s
-
-call_grows : (env : Surroundings) (depth : ℕ) (call : Call (List ℕ)) (s : TextSoFar) → Begins s.text (call_at env depth call s).edge.text
-unfolding call_at
-call_grows env zero call s = charge_grows (says Loop (name_of limits.Nest)) s (λ t. begins_same t.text)
-call_grows env (suc depth) call s =
-    charge_grows (interpolated env (λ text. lay (call_at env depth) (parts env.copy text)) call) s
-    (λ t. interpolated_grows env (λ text. lay (call_at env depth) (parts env.copy text)) call t (λ text. lay_grows (call_at env depth) (call_grows env depth) (parts env.copy text)))
-
--- ---- the front of a line
-
--- no backslash (92) is before a place
-abbrev pub HasNoneBefore : ℕ → List ℕ → Type 0
-HasNoneBefore k text = (j : ℕ) → j < k → (get_or text j 0 == 92) ≡ false
-
-plain_at : (k b : ℕ) (bs : List ℕ) → (b == 92) ≡ false → (take k (plain bs) ≡ take k bs) × (k ≤ length (plain bs))
-    → (take (suc k) (plain (b ∷ bs)) ≡ take (suc k) (b ∷ bs)) × (suc k ≤ length (plain (b ∷ bs)))
-plain_at k b bs e h = rw e (ap (λ (l : List ℕ). b ∷ l) h.0, omega (arith, h.1))
-
-plain_before : (k : ℕ) (bs : List ℕ) → k ≤ length bs → HasNoneBefore k bs → (take k (plain bs) ≡ take k bs) × (k ≤ length (plain bs))
-plain_before zero bs l h = (refl, omega arith)
-plain_before (suc k) [] l h = absurd (omega arith)
-plain_before (suc k) (b ∷ bs) l h = plain_at k b bs (h 0 (omega arith)) (plain_before k bs (omega arith) (λ j g. h (suc j) (omega arith)))
-
-plain_short_if : (c : Bool) (b : ℕ) (bs : List ℕ) → length (plain bs) ≤ length bs → length (if c then [] else b ∷ plain bs) ≤ suc (length bs)
-plain_short_if true b bs h = omega arith
-plain_short_if false b bs h = omega arith
-
-plain_short : (bs : List ℕ) → length (plain bs) ≤ length bs
-plain_short [] = omega arith
-plain_short (b ∷ bs) = plain_short_if (b == 92) b bs (plain_short bs)
-
-first_plain : (copy : Bool) (b : ℕ) (bs : List ℕ) → (b == 92) ≡ false → seen copy (b ∷ bs) ≡ copies (b ∷ plain bs) (after_plain bs)
-unfolding seen
-first_plain copy b bs e = rw e refl
-
-value_begins : (env : Surroundings) (n b : ℕ) (bs : List ℕ) → (b == 92) ≡ false → length (b ∷ bs) ≤ LINE → Begins (b ∷ plain bs) (expanded env n (b ∷ bs)).edge.text
-unfolding value lay
-value_begins env n b bs e l =
-    let run = b ∷ plain bs in
-    let fits : length run ≤ LINE = omega (arith, plain_short bs, l) in
-    rw (parts_more env.copy b bs, first_plain env.copy b bs e, put_all run (start n) fits)
-    (seq_grows run (nothing (adds run (start n))) (lay (call_at env NEST) (parts env.copy (after_plain bs))) (begins_same run)
-    (lay_grows (call_at env NEST) (call_grows env NEST) (parts env.copy (after_plain bs))))
-
-front_by : (k : ℕ) (run text finished : List ℕ) → take k run ≡ take k text → k ≤ length run → Begins run finished → (take k finished ≡ take k text) × (k ≤ length finished)
-front_by k run text finished e l (zs, f) =
-    (ap (take k) f ∙ take-append-le k run zs l ∙ e, omega (arith, l, ap length f, length-append run zs))
-
--- the bytes before the first backslash are at the front of the finished line
-pub finished_front : (env : Surroundings) (n k : ℕ) (line : List ℕ) → length line ≤ LINE → k ≤ length line → HasNoneBefore k line
-    → (take k (expanded env n line).edge.text ≡ take k line) × (k ≤ length (expanded env n line).edge.text)
-finished_front env n zero line l h f = (refl, omega arith)
-finished_front env n (suc k) [] l h f = absurd (omega arith)
-finished_front env n (suc k) (b ∷ bs) l h f =
-    let e = f 0 (omega arith) in
-    let p = plain_before k bs (omega arith) (λ j g. f (suc j) (omega arith)) in
-    front_by (suc k) (b ∷ plain bs) (b ∷ bs) (expanded env n (b ∷ bs)).edge.text (ap (λ (t : List ℕ). b ∷ t) p.0) (omega (arith, p.1)) (value_begins env n b bs e l)

@@ -37,11 +37,7 @@ pub rest_part : (env : Surroundings) (room b : ℕ) (bs : List ℕ) (ts : List (
     → rest env room ((b ∷ bs) ∷ ts) s
     ≡ seq (one env (room_in room ((seen env.copy (b ∷ bs)).rest ∷ ts)) (seen env.copy (b ∷ bs)).part s) (rest env room ((seen env.copy (b ∷ bs)).rest ∷ ts))
 unfolding rest room_in value
-rest_part env room b bs ts s =
-    let d = room - length ts in
-    let x = seen env.copy (b ∷ bs) in
-    rw (parts_more env.copy b bs, lay_part env d x.part (parts env.copy x.rest) s)
-    (seq_assoc (one env d x.part s) (lay (call_at env d) (parts env.copy x.rest)) (rest env room ts))
+rest_part env room b bs ts s = grind (arith, parts_more, lay_part, seq_assoc)
 
 pub texts_pop : (xs : List (Bor (List ℕ))) (t : Bor (List ℕ))
     → map (λ (t : Bor (List ℕ)). t.now) (reverse (xs ++ t ∷ [])) ≡ t.now ∷ map (λ (t : Bor (List ℕ)). t.now) (reverse xs)
@@ -62,8 +58,7 @@ is_nil (x ∷ xs) h = let e : suc (length xs) ≡ 0 = eqb-true (suc (length xs))
 pub rest_none : (env : Surroundings) (room : ℕ) (text : List ℕ) (xs : List (Bor (List ℕ))) (s : TextSoFar) → s.ended ≡ false
     → (length text == 0) ≡ true → ¬ (0 < length xs) → rest env room (text ∷ outer_of xs) s ≡ nothing s
 unfolding rest
-rest_none env room text xs s e t o =
-    rw (is_nil text t, no_items xs o) (rest_done env room [] s e)
+rest_none env room text xs s e t o = grind (arith, is_nil, no_items, rest_done)
 
 -- the innermost text is at its end
 pub rest_pop : (env : Surroundings) (room : ℕ) (text : List ℕ) (xs ys : List (Bor (List ℕ))) (t : Bor (List ℕ)) (s : TextSoFar) → s.ended ≡ false
@@ -90,14 +85,11 @@ shorter copy (b ∷ bs) x h e = rw e (let k = seen_shorter copy b bs in omega ar
 -- the code begins a text where the line is
 pub inside_is : (a : Inside) (start column : ℕ) → start ≡ length a.text.items → column ≡ column_of (nested_of a).spot
     → nested_of (record a { start = start; width_column = Some column }) ≡ going_inside (nested_of a)
-inside_is a start column e f =
-    let t = a.text.items in
-    rw (e, f, take-length t, drop-length t, take-append-drop a.start t) refl
+inside_is a start column e f = grind (arith, take-length, drop-length, take-append-drop)
 
 outside_is : (s t : NestedSpot) → t.spot.around ≡ (inside s.spot).around → t.before ≡ s.before ++ s.spot.text
     → going_outside (length s.before) s.spot.around.width_column t ≡ record { spot = outside s.spot t.spot; before = s.before }
-outside_is s t e h =
-    rw (e, h, take-append_seam s.before s.spot.text, drop-append_seam s.before s.spot.text) refl
+outside_is s t e h = grind (arith, take-append_seam, drop-append_seam)
 
 -- the text was read, and the code goes on where the line was
 goes_back : (env : Surroundings) (room : ℕ) (text : List ℕ) (s t : NestedSpot) → s.spot.ended ≡ false
