@@ -33,6 +33,9 @@ s/\\\[tmu\]/\\(mu/g
 s/\\\[bv\]/|/g
 s/\\\[ell\]/\\[u2113]/g
 }
+# a number that grows by one where a macro prints it
+/\\n+/s/^\(\.[A-Z].*\)\\n+\[\([^]\\]*\)\]/.nr \2 +1\
+\1\\n[\2]/
 s/\\(mc/\\[u00B5]/g
 s/\\(bv/|/g
 }
