@@ -415,19 +415,3 @@ def completion_of_fish(program, room):
     same(fish("./ow")[0].split("\t")[0].strip(), "./own page.1")
     os.remove(f"{room}/own page.1")
     same((fish("3 too")[0], fish("-s ")[0].split("\t")[0]), ("tool\n", "1"))
-
-
-# ---- scripts
-
-
-@case()
-def shell_scripts(_program, _room):
-    scripts = [f"{HERE}/{name}" for name in ("hman", "whatis-tree")]
-    for shell in filter(shutil.which, ("sh", "dash", "bash")):
-        for script in scripts:
-            same(run(shell, "-n", script), ("", "", 0))
-
-
-@case("shellcheck")
-def checked_shell_scripts(_program, _room):
-    same(run("shellcheck", "-S", "warning", f"{HERE}/hman", f"{HERE}/whatis-tree", f"{HERE}/completion/hman.bash"), ("", "", 0))
