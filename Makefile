@@ -107,7 +107,7 @@ uninstall:
 # What is installed, as an archive that is unpacked anywhere: bin/hman and the others find what they need beside them.
 PACKAGE := $(NAME)-$(VERSION)-linux-x86_64
 dist: $(PROGRAM)
-	@! LC_ALL=C grep -aq ld-linux $(PROGRAM) || echo "$(PROGRAM) is not static: it needs the C library where the archive is unpacked." >&2
+	@! LC_ALL=C readelf -lW $(PROGRAM) | grep -q INTERP || echo "$(PROGRAM) is not static: it needs the C library where the archive is unpacked." >&2
 	rm -rf out/$(PACKAGE)
 	@$(MAKE) --no-print-directory install DESTDIR=$(CURDIR)/out/ PREFIX=$(PACKAGE)
 	tar -C out --owner=0 --group=0 --sort=name -czf $(PACKAGE).tar.gz $(PACKAGE)
