@@ -61,6 +61,10 @@ BASH := $(SHARE)/bash-completion/completions/hman
 ZSH := $(SHARE)/zsh/site-functions/_hman
 FISH := $(SHARE)/fish/vendor_completions.d/hman.fish
 
+# What is said of a program that `make quick` built.
+NOTHING := NOTHING of $(PREFIX)/bin/$(NAME) is proved: \`make install\` proves the program, and installs it.
+UNPROVED := $(if $(filter %-unproved,$(PROGRAM)),$(NOTHING))
+
 # A manual calls the program by the name that it has here.
 CAPITALS := $(shell printf %s '$(NAME)' | tr a-z A-Z)
 NAMED := sed -e 's/^\.Dt MANDOC/.Dt $(CAPITALS)/' -e 's/^\.Nm mandoc/.Nm $(NAME)/' -e 's/^\.Xr mandoc 1/.Xr $(NAME) 1/' \
@@ -69,6 +73,7 @@ REFERRED := sed -e 's/^\.Xr mandoc 1/.Xr $(NAME) 1/'
 
 # What runs is in share/NAME, with links in bin, and nothing of it in share/doc. The pages of the program's commands have its name in front, so that they
 # hurt no other makewhatis and whatis. The files of contrib get the name and the place of what is installed; a README has no links to what isn't there.
+# share/doc/NAME/UNPROVED says that a program is not proved, also in an archive and a package.
 install: $(PROGRAM)
 	rm -f $(DOC)/UNPROVED
 	install -D -m 755 $(PROGRAM) $(BIN)/$(NAME)
@@ -93,11 +98,11 @@ install: $(PROGRAM)
 	install -D -m 644 contrib/completion/hman.bash $(BASH)
 	install -D -m 644 contrib/completion/_hman $(ZSH)
 	install -D -m 644 contrib/completion/hman.fish $(FISH)
+	$(if $(UNPROVED),@echo "$(UNPROVED)" | tee $(DOC)/UNPROVED)
 
-# The same with the program that `make quick` builds; share/doc/NAME/UNPROVED says so, too.
+# The same with the program that `make quick` builds.
 install-quick: mandoc-unproved
 	@$(MAKE) --no-print-directory install PROGRAM=mandoc-unproved
-	@echo "NOTHING of $(BIN)/$(NAME) is proved: \`make install\` proves the program, and installs it." | tee $(DOC)/UNPROVED
 
 uninstall:
 	rm -f $(BIN)/$(NAME) $(BIN)/hman $(BIN)/mandoc-lint $(BIN)/mandoc-lsp $(BASH) $(ZSH) $(FISH)
@@ -124,7 +129,8 @@ deb: $(PROGRAM)
 		"$$(LC_ALL=C date -R -r CHANGELOG.md)" | gzip -9n > out/deb/usr/share/doc/$(NAME)/changelog.gz
 	mkdir out/deb/DEBIAN
 	(cd out/deb && find usr -type f -exec md5sum {} + > DEBIAN/md5sums)
-	sed -e 's/@NAME@/$(NAME)/' -e 's/@VERSION@/$(VERSION)/' -e 's/@MAINTAINER@/$(MAINTAINER)/' contrib/packaging/control > out/deb/DEBIAN/control
+	sed -e 's/@NAME@/$(NAME)/' -e 's/@VERSION@/$(VERSION)/' -e 's/@MAINTAINER@/$(MAINTAINER)/' \
+		$(if $(UNPROVED),-e 's/whose rows are proved/of which nothing is proved/') contrib/packaging/control > out/deb/DEBIAN/control
 	echo "Installed-Size: $$(du -ks out/deb/usr | cut -f 1)" >> out/deb/DEBIAN/control
 	dpkg-deb --root-owner-group --build out/deb $(NAME)_$(VERSION)_amd64.deb
 	rm -rf out/deb
