@@ -59,8 +59,12 @@ def lies(path):
         return Link(os.readlink(path))
     if not stat.S_ISREG(found.st_mode):
         return Folder if stat.S_ISDIR(found.st_mode) else Pipe
+    mode = stat.S_IMODE(found.st_mode)
+    # (one that nobody may read is read by root alone)
+    if not os.access(path, os.R_OK):
+        return File(None, mode, found.st_uid == os.geteuid())
     with open(path, "rb") as file:
-        return File(file.read(), stat.S_IMODE(found.st_mode), found.st_uid == os.geteuid())
+        return File(file.read(), mode, found.st_uid == os.geteuid())
 
 
 def all_that_lies(room):
