@@ -1,34 +1,40 @@
--- A page has at most a line for each of its bytes, also with the line that is open.
+-- What the bytes of a page settle, part by part, and a run that takes them: a page has at most a line for each of its bytes, also with the line that is open.
 use Rattle.std.proofs.Common.{◌≡◌, ℕ, ◌+◌, ◌<◌, ◌≤◌, ◌-◌, ◌^◌, None, Bool, true, false, List, [], ◌∷◌, length, refl, ap, ◌∙◌, sym, arith, length-append, ◌++◌, Result, Ok, Err, take, drop, append_assoc, append-nil, inl, inr, OnOk, subst}
 use Rattle.std.specs.Prelude.{if◌then◌else◌, ◌==◌}
 use Rattle.std.proofs.lemmas.Bool.{lt-ltb}
-use Rattle.page_core_base.specs.declared.page_settings.Encoding.{Encoding}
-use Rattle.page_roff_lines.specs.laws.Views.{newline}
-use Rattle.page_roff_lines.specs.laws.Cutting.{Point, first_point, point_after, lines_within, last_line, line_of, line_at, next_point, point_at, end_point, lines_from}
-use Rattle.page_roff_lines.specs.machine.Open.{Open, restart, put, put_plain, put_pair, put_in, close, without_return, newline_in, put_newline, put_byte, count_byte, ends_mark, next_open, end_open}
-use Rattle.page_roff_lines.specs.declared.Mode.{Mode}
-use Rattle.page_roff_lines.specs.declared.Mode.TheVariants.{Plain, Backslash, Comment, Dropped}
-use Rattle.page_engine.specs.Edges.{Edge, start}
-use Rattle.page_engine.proofs.WholeLines.{at_most, consumed_more, settled-append, page-append, settled_none}
-use Rattle.page_engine.specs.laws.States.{PageState, IsOpenAt, line_fault}
+use Rattle.std.proofs.lemmas.List.{take-append-drop}
 use Rattle.page_core_base.specs.Messages.{Message, IsSinkFault}
 use Rattle.page_core_base.specs.Rows.{LaidRow, Laid, Gave, join, nothing}
 use Rattle.page_core_base.specs.laws.Views.{IsSink, FailsAs, Gives}
-use Rattle.page_core_base.proofs.LatchLemmas.{within-join}
-use Rattle.page_roff_lines.proofs.PointLemmas.{lines_within-append, point_after-append}
-use Rattle.page_engine.specs.laws.Views.{IsReached, Came, Front}
-use Rattle.page_engine.specs.Page.{settled, page}
-use Rattle.page_engine.specs.machine.Steps.{page_from, settled_from, BrokenFrom, BrokeFrom, CanTake, IsFresh, Moved, Settled, Through, ChunkBroke, PutsOut, no_more, TakesChunk}
-use Rattle.std.proofs.lemmas.List.{take-append-drop}
 use Rattle.page_core_base.specs.declared.faults.Fault.{Fault}
 use Rattle.page_core_base.specs.declared.faults.Fault.TheVariants.{WriteText, WriteNotes, Memory, Read, TooLong, Settings, Failed, Ended, BadIndex}
-use Rattle.page_engine.specs.declared.runs.Run.{Run}
-use Rattle.page_engine.specs.machine.PageSinks.{cause_later}
-use Rattle.page_engine.specs.Runs.{Streams, Sinks, AllCame, FrontCame, RunsOver, Whole, Broken, BrokeIn, whole_page, settled_page}
+use Rattle.page_core_base.specs.declared.page_settings.Encoding.{Encoding}
 use Rattle.page_core_base.specs.declared.page_settings.Settings.{Settings as PageSettings}
 use Rattle.page_core_streams.specs.Streams.{SourceState}
-use Rattle.page_roff_lines.specs.Lines.{lines_made, line_left}
+use Rattle.page_roff_lines.specs.Lines.{Line, lines, whole_lines, lines_made, line_left}
+use Rattle.page_roff_lines.specs.laws.Views.{newline}
+use Rattle.page_roff_lines.specs.laws.Cutting.{Point, IsAfter, first_point, point_after, lines_within, last_line, line_of, line_at, next_point, point_at, end_point}
+use Rattle.page_roff_lines.specs.machine.Open.{Open, restart, put, put_plain, put_pair, put_in, close, without_return, newline_in, put_newline, put_byte, count_byte, ends_mark, next_open, end_open}
+use Rattle.page_roff_lines.specs.declared.Mode.{Mode}
+use Rattle.page_roff_lines.specs.declared.Mode.TheVariants.{Plain, Backslash, Comment, Dropped}
+use Rattle.page_roff_lines.proofs.LineAgreement.{lines-one_by_one}
+use Rattle.page_roff_lines.proofs.PointLemmas.{lines_within-append, point_after-append}
+use Rattle.page_roff_lines.proofs.WholeLemmas.{whole-is, made-is, left-is}
+use Rattle.page_roff_source.specs.declared.counts.Counts.{Counts}
+use Rattle.page_engine.specs.Edges.{Edge, start}
+use Rattle.page_engine.specs.Page.{edge, settled, page}
+use Rattle.page_engine.specs.Runs.{Sinks, AllCame, FrontCame, RunsOver, Whole, Broken, BrokeIn, whole_page, settled_page, settled_by, page_rest}
+use Rattle.page_engine.specs.declared.pages.Phase.{Phase}
+use Rattle.page_engine.specs.declared.pages.Phase.TheVariants.{Open as open_phase}
 use Rattle.page_engine.specs.declared.runs.Outcome.{Outcome}
+use Rattle.page_engine.specs.declared.runs.Run.{Run}
+use Rattle.page_engine.specs.laws.Reads.{RunState, HasTaken, Fed, BrokeAt}
+use Rattle.page_engine.specs.laws.States.{PageState, IsOpenAt, line_fault}
+use Rattle.page_engine.specs.laws.Views.{IsReached, counts_at, Came, Front}
+use Rattle.page_engine.specs.machine.PageSinks.{cause_later}
+use Rattle.page_engine.specs.machine.Steps.{state_of, HasRoom, CanTake, Through, PartBroke, PutsOut, no_more}
+use Rattle.page_engine.proofs.Items.{source_more}
+use Rattle.page_engine.proofs.WholeLines.{at_most, consumed_more, settled-append, page-append, settled_none, start_reached}
 
 -- ---- a line that is whole has not begun again
 
@@ -129,131 +135,186 @@ lines_most p (b ∷ bs) =
 pub first_none : (e : Encoding) → last_line (first_point e) ≡ []
 first_none e = no_last_line (first_point e) refl
 
--- a page with fewer lines takes another one
-pub may_take : (p : PageState) (e : Edge) → IsOpenAt p e → p.counts.source < 2 ^ 31 - 1 → line_fault p ≡ None
-may_take p e h few = rw (h.phase, lt-ltb p.counts.source (2 ^ 31 - 1) few) refl
+-- ---- What bytes settle, part by part.
 
--- ---- What the lines of bytes settle, part by part.
+made_parts : (set : Encoding) (before xs ys : List ℕ) → lines_made set before (xs ++ ys) ≡ lines_made set before xs ++ lines_made set (before ++ xs) ys
+made_parts set before xs ys =
+    let p = point_after (first_point set) before in
+    let more = made-is set (before ++ xs) ys ∙ ap (λ (q : Point). lines_within q ys) (point_after-append (first_point set) before xs) in
+    made-is set before (xs ++ ys) ∙ lines_within-append p xs ys
+    ∙ sym (ap (λ (l : List Line). l ++ lines_made set (before ++ xs) ys) (made-is set before xs) ∙ ap (λ (l : List Line). lines_within p xs ++ l) more)
 
--- ---- what is settled of more bytes
+whole_parts : (set : Encoding) (before own : List ℕ) → whole_lines set (before ++ own) ≡ whole_lines set before ++ lines_made set before own
+whole_parts set before own =
+    let p = first_point set in
+    whole-is set (before ++ own) ∙ lines_within-append p before own
+    ∙ sym (ap (λ (l : List Line). l ++ lines_made set before own) (whole-is set before) ∙ ap (λ (l : List Line). lines_within p before ++ l) (made-is set before own))
 
-pub settled_more : (e : Edge) (p q : Point) (xs ys : List ℕ) → IsReached e → q ≡ point_after p xs
-    → settled_from e p (xs ++ ys) ≡ join (settled_from e p xs) (settled_from (settled_from e p xs).edge q ys)
-settled_more e p q xs ys i h =
-    rw h (ap (settled e) (lines_within-append p xs ys) ∙ settled-append e (lines_within p xs) (lines_within (point_after p xs) ys) i)
+line_parts : (set : Encoding) (bytes : List ℕ) → lines set bytes ≡ whole_lines set bytes ++ line_left set bytes
+line_parts set bytes =
+    lines-one_by_one set bytes
+    ∙ sym (ap (λ (l : List Line). l ++ line_left set bytes) (whole-is set bytes) ∙ ap (λ (l : List Line). lines_within (first_point set) bytes ++ l) (left-is set bytes))
 
-pub page_last : (e : Edge) (p q : Point) (xs : List ℕ) → IsReached e → q ≡ point_after p xs
-    → page_from e p xs ≡ join (settled_from e p xs) (page (settled_from e p xs).edge (last_line q))
-page_last e p q xs i h = rw h (page-append e (lines_within p xs) (last_line (point_after p xs)) i)
+pub page_more : (s : PageSettings) (before own : List ℕ) → settled_page s (before ++ own) ≡ join (settled_page s before) (settled_by s before own)
+page_more s before own =
+    ap (settled (start s)) (whole_parts s.encoding before own)
+    ∙ settled-append (start s) (whole_lines s.encoding before) (lines_made s.encoding before own) (start_reached s)
 
--- a page of bytes begins with what its whole lines settle
-pub page_front : {R N : Type 0} {rg rw_ : R → List LaidRow → R → Type 0} {ng nw : N → List Message → N → Type 0} → IsSink rg rw_ → IsSink ng nw
-    → (r r' : R) (n n' : N) (e : Edge) (p : Point) (xs : List ℕ) → IsReached e
-    → Gave rw_ nw r r' n n' (settled_from e p xs) → Gave rw_ nw r r' n n' (page_from e p xs)
-page_front k l r r' n n' e p xs i g =
-    rw (page_last e p (point_after p xs) xs i refl)
-    (within-join k l r r' n n' (settled_from e p xs) (page (settled_from e p xs).edge (last_line (point_after p xs))) g)
+pub page_whole : (s : PageSettings) (bytes : List ℕ) → whole_page s bytes ≡ join (settled_page s bytes) (page_rest s bytes)
+page_whole s bytes =
+    ap (page (start s)) (line_parts s.encoding bytes)
+    ∙ page-append (start s) (whole_lines s.encoding bytes) (line_left s.encoding bytes) (start_reached s)
+
+pub edge_more : (s : PageSettings) (before own : List ℕ) → (settled_page s (before ++ own)).edge ≡ (settled_by s before own).edge
+edge_more s before own = ap (λ (l : Laid Edge). l.edge) (page_more s before own)
+
+made_more : (s : PageSettings) (before xs ys : List ℕ) → IsReached (settled_page s before).edge
+    → settled_by s before (xs ++ ys) ≡ join (settled_by s before xs) (settled_by s (before ++ xs) ys)
+made_more s before xs ys reached =
+    let e = (settled_page s before).edge in
+    let ls = lines_made s.encoding before xs in
+    let ms = lines_made s.encoding (before ++ xs) ys in
+    ap (settled e) (made_parts s.encoding before xs ys) ∙ settled-append e ls ms reached
+    ∙ ap (λ (f : Edge). join (settled e ls) (settled f ms)) (sym (edge_more s before xs))
+
+none_made : (s : PageSettings) (before : List ℕ) → lines_made s.encoding before [] ≡ []
+unfolding lines_within
+none_made s before = made-is s.encoding before []
+
+made_none : (s : PageSettings) (before : List ℕ) → IsReached (settled_page s before).edge → settled_by s before [] ≡ nothing (settled_page s before).edge
+made_none s before reached = ap (settled (settled_page s before).edge) (none_made s before) ∙ settled_none (settled_page s before).edge reached
+
+pub bytes_none : (s : PageSettings) → settled_page s [] ≡ nothing (start s)
+unfolding lines_within
+bytes_none s = ap (settled (start s)) (whole-is s.encoding []) ∙ settled_none (start s) (start_reached s)
+
+-- ---- the lines of bytes
+
+pub made_lines : (s : PageSettings) (before own : List ℕ) (q : Point) (b : Bool) (line : Line) → IsAfter q s.encoding before
+    → lines_within q own ≡ (if b then line ∷ [] else []) → lines_made s.encoding before own ≡ (if b then line ∷ [] else [])
+made_lines s before own q b line h f = made-is s.encoding before own ∙ (ap (λ (p : Point). lines_within p own) (sym h) ∙ f)
+
+pub left_line : (s : PageSettings) (bytes : List ℕ) (q end : Point) (b : Bool) (line : Line) → IsAfter q s.encoding bytes → end ≡ end_point q
+    → line_at end ≡ (if b then line ∷ [] else []) → line_left s.encoding bytes ≡ (if b then line ∷ [] else [])
+left_line s bytes q end b line h is f =
+    left-is s.encoding bytes ∙ (ap last_line (sym h) ∙ (ap line_at (sym is) ∙ f))
+
+pub point_more : (s : PageSettings) (before own : List ℕ) (q : Point) → IsAfter q s.encoding before → IsAfter (point_after q own) s.encoding (before ++ own)
+point_more s before own q h = ap (λ (p : Point). point_after p own) h ∙ sym (point_after-append (first_point s.encoding) before own)
+
+pub consumed_is : (s : PageSettings) (bytes : List ℕ) (q : Point) → IsAfter q s.encoding bytes → q.line.consumed ≡ length bytes
+consumed_is s bytes q h =
+    let none : (first_point s.encoding).line.consumed ≡ 0 = refl in
+    omega (arith, none, ap (λ (p : Point). p.line.consumed) h, consumed_more (first_point s.encoding) bytes)
+
+pub source_is : (c : Counts) (s : PageSettings) (all : List Line) → c ≡ counts_at (edge (start s) all) → c.source ≡ length all
+source_is c s all h =
+    let none : (counts_at (start s)).source ≡ 0 = refl in
+    omega (arith, none, ap (λ (c : Counts). c.source) h, source_more (start s) all)
+
+lines_few : (s : PageSettings) (bytes : List ℕ) → length (whole_lines s.encoding bytes) + length (line_left s.encoding bytes) ≤ length bytes
+lines_few s bytes =
+    let e = s.encoding in
+    omega (arith, ap length (whole-is e bytes), ap length (left-is e bytes), lines_most (first_point e) bytes, ap length (first_none e))
+
+may_take : (p : PageState) (s : PageSettings) (bytes : List ℕ) → IsOpenAt p (settled_page s bytes).edge
+    → length (whole_lines s.encoding bytes) < 2 ^ 31 - 1 → line_fault p ≡ None
+may_take p s bytes h few =
+    let source = source_is p.counts s (whole_lines s.encoding bytes) h.counts in
+    rw (h.phase, lt-ltb p.counts.source (2 ^ 31 - 1) (omega (arith, source, few))) refl
+
+-- a page takes the next line of its bytes, and the last one
+pub may_take_made : (p : PageState) (s : PageSettings) (before own : List ℕ) → IsOpenAt p (settled_page s before).edge
+    → length (lines_made s.encoding before own) ≡ 1 → length before + length own < 2 ^ 31 → line_fault p ≡ None
+may_take_made p s before own h one few =
+    let e = s.encoding in
+    let all = ap length (whole_parts e before own) ∙ length-append (whole_lines e before) (lines_made e before own) in
+    may_take p s before h (omega (arith, all, one, few, lines_few s (before ++ own), length-append before own))
+
+pub may_take_left : (p : PageState) (s : PageSettings) (bytes : List ℕ) → IsOpenAt p (settled_page s bytes).edge
+    → length (line_left s.encoding bytes) ≡ 1 → length bytes < 2 ^ 31 → line_fault p ≡ None
+may_take_left p s bytes h one few = may_take p s bytes h (omega (arith, one, few, lines_few s bytes))
 
 -- ---- two things, one after the other
-
-pub both_gave : {R N E F : Type 0} {rg rw_ : R → List LaidRow → R → Type 0} {ng nw : N → List Message → N → Type 0} → IsSink rg rw_ → IsSink ng nw
-    → {r a : R} {n b : N} (a' : R) (b' : N) (x : Laid E) (y : Laid F) → Gave rg ng r a n b x → Gave rg ng a a' b b' y → Gave rg ng r a' n b' (join x y)
-both_gave k l {r} {a} {n} {b} a' b' x y g h =
-    record { rows = k.more r a a' x.rows y.rows g.rows h.rows; notes = l.more n b b' x.notes y.notes g.notes h.notes }
 
 pub both_within : {R N E F : Type 0} {rg rw_ : R → List LaidRow → R → Type 0} {ng nw : N → List Message → N → Type 0} → IsSink rg rw_ → IsSink ng nw
     → {r a : R} {n b : N} (a' : R) (b' : N) (x : Laid E) (y : Laid F) → Gave rg ng r a n b x → Gave rw_ nw a a' b b' y → Gave rw_ nw r a' n b' (join x y)
 both_within k l {r} {a} {n} {b} a' b' x y g h =
     record { rows = k.after r a a' x.rows y.rows g.rows h.rows; notes = l.after n b b' x.notes y.notes g.notes h.notes }
 
--- ---- counts of lines
-
-pub lines_more : (p q : Point) (xs ys : List ℕ) → q ≡ point_after p xs → length (lines_within p (xs ++ ys)) ≡ length (lines_within p xs) + length (lines_within q ys)
-lines_more p q xs ys h = rw h (ap length (lines_within-append p xs ys) ∙ length-append (lines_within p xs) (lines_within (point_after p xs) ys))
-
-pub lines_last : (p q : Point) (xs : List ℕ) → q ≡ point_after p xs → length (lines_from p xs) ≡ length (lines_within p xs) + length (last_line q)
-lines_last p q xs h = rw h (length-append (lines_within p xs) (last_line (point_after p xs)))
-
--- ---- Parts of a page that follow one another, and what is known where a sink failed.
-
--- ---- no byte
-
-pub from_none : (e : Edge) (p : Point) → IsReached e → settled_from e p [] ≡ nothing e
-unfolding lines_within
-from_none e p i = settled_none e i
-
-pub settles_none : {R N : Type 0} (k : Sinks R N) → IsSink k.to.row_gave k.to.row_within → IsSink k.to.note_gave k.to.note_within
-    → {here : PageState} (r : R) (n : N) (e : Edge) (p : Point) → IsOpenAt here e → Settled k here r r n n e p []
-settles_none k rows notes r n e p h = record {
-  came = record { gave = rw (from_none e p h.reached) record { rows = rows.none r; notes = notes.none n }; rows_quiet = refl; notes_quiet = refl };
-  at = rw (from_none e p h.reached) h;
-}
-
-pub moved_none : (run : Run) → run.cutter.ready ≡ false → Moved run run []
-unfolding lines_within point_after
-moved_none run free = record { point = refl; free = free; lines_taken = omega arith }
-
-pub through_none : {R N : Type 0} (k : Sinks R N) → IsSink k.to.row_gave k.to.row_within → IsSink k.to.note_gave k.to.note_within
-    → (run : Run) (r : R) (n : N) → run.cutter.ready ≡ false → Through k run run r r n n []
-through_none k rows notes run r n free =
-    record { settled = λ e h. settles_none k rows notes r n e run.cutter.point h; moved = moved_none run free }
-
--- ---- more bytes
-
-pub settles_more : {R N : Type 0} (k : Sinks R N) → IsSink k.to.row_gave k.to.row_within → IsSink k.to.note_gave k.to.note_within
-    → {here next : PageState} {r a a' : R} {n b b' : N} (e : Edge) (p q : Point) (xs ys : List ℕ) → IsReached e → q ≡ point_after p xs
-    → Settled k here r a n b e p xs → Settled k next a a' b b' (settled_from e p xs).edge q ys → Settled k next r a' n b' e p (xs ++ ys)
-settles_more k rows notes {a' = a'} {b' = b'} e p q xs ys i h s t =
-    let x = settled_from e p xs in
-    let y = settled_from x.edge q ys in
-    let w = settled_more e p q xs ys i h in record {
-      came = record {
-        gave = rw w (both_gave rows notes a' b' x y s.came.gave t.came.gave);
-        rows_quiet = t.came.rows_quiet ∙ s.came.rows_quiet;
-        notes_quiet = t.came.notes_quiet ∙ s.came.notes_quiet;
-      };
-      at = rw w t.at;
-    }
-
-pub moved_more : {run mid run' : Run} (xs ys : List ℕ) → Moved run mid xs → Moved mid run' ys → Moved run run' (xs ++ ys)
-moved_more {run} {mid} {run'} xs ys s t = record {
-  point = t.point ∙ (ap (λ p. point_after p ys) s.point ∙ sym (point_after-append run.cutter.point xs ys));
-  free = t.free;
-  lines_taken = omega (arith, s.lines_taken, t.lines_taken, lines_more run.cutter.point mid.cutter.point xs ys s.point);
-}
-
-pub through_more : {R N : Type 0} (k : Sinks R N) → IsSink k.to.row_gave k.to.row_within → IsSink k.to.note_gave k.to.note_within
-    → {run mid run' : Run} {r a a' : R} {n b b' : N} (xs ys : List ℕ)
-    → Through k run mid r a n b xs → Through k mid run' a a' b b' ys → Through k run run' r a' n b' (xs ++ ys)
-through_more k rows notes {run} {mid} {run'} xs ys s t = record {
-  settled = λ e h. let f = s.settled e h in
-      settles_more k rows notes e run.cutter.point mid.cutter.point xs ys h.reached s.moved.point f (t.settled (settled_from e run.cutter.point xs).edge f.at);
-  moved = moved_more xs ys s.moved t.moved;
-}
-
--- ---- what waits is put out
-
--- what came, and then nothing more
-pub came_out : {R N E : Type 0} (k : Sinks R N) → IsSink k.to.row_gave k.to.row_within → IsSink k.to.note_gave k.to.note_within
-    → {r a a' : R} {n b b' : N} (laid : Laid E) → Came k r a n b laid → Came k a a' b b' no_more → Came k r a' n b' laid
-came_out k rows notes {r} {a} {a'} {n} {b} {b'} laid c d = record {
+pub came_both : {R N E F : Type 0} (k : Sinks R N) → IsSink k.to.row_gave k.to.row_within → IsSink k.to.note_gave k.to.note_within
+    → {r a r' : R} {n b n' : N} (x : Laid E) (y : Laid F) → Came k r a n b x → Came k a r' b n' y → Came k r r' n n' (join x y)
+came_both k rows notes {r} {a} {r'} {n} {b} {n'} x y c d = record {
   gave = record {
-    rows = rw append-nil at (rows.more r a a' laid.rows [] c.gave.rows d.gave.rows);
-    notes = rw append-nil at (notes.more n b b' laid.notes [] c.gave.notes d.gave.notes);
+    rows = rows.more r a r' x.rows y.rows c.gave.rows d.gave.rows;
+    notes = notes.more n b n' x.notes y.notes c.gave.notes d.gave.notes;
   };
   rows_quiet = d.rows_quiet ∙ c.rows_quiet;
   notes_quiet = d.notes_quiet ∙ c.notes_quiet;
 }
 
-pub front_out : {R N E : Type 0} (k : Sinks R N) → IsSink k.to.row_gave k.to.row_within → IsSink k.to.note_gave k.to.note_within
-    → {r a a' : R} {n b b' : N} (laid : Laid E) (fault : Fault) → Came k r a n b laid → Front k a a' b b' no_more fault → Front k r a' n b' laid fault
-front_out k rows notes {r} {a} {a'} {n} {b} {b'} laid fault c d = record {
-  gave = record {
-    rows = rw append-nil at (rows.after r a a' laid.rows [] c.gave.rows d.gave.rows);
-    notes = rw append-nil at (notes.after n b b' laid.notes [] c.gave.notes d.gave.notes);
-  };
+pub front_both : {R N E F : Type 0} (k : Sinks R N) → IsSink k.to.row_gave k.to.row_within → IsSink k.to.note_gave k.to.note_within
+    → {r a r' : R} {n b n' : N} (x : Laid E) (y : Laid F) (fault : Fault) → Came k r a n b x → Front k a r' b n' y fault → Front k r r' n n' (join x y) fault
+front_both k rows notes {r' = r'} {n' = n'} x y fault c d = record {
+  gave = both_within rows notes r' n' x y c.gave d.gave;
   cause = cause_later fault _ _ _ _ _ _ c.rows_quiet c.notes_quiet d.cause;
 }
+
+pub came_none : {R N E : Type 0} (k : Sinks R N) → IsSink k.to.row_gave k.to.row_within → IsSink k.to.note_gave k.to.note_within
+    → (r : R) (n : N) (e : E) → Came k r r n n (nothing e)
+came_none k rows notes r n e = record { gave = record { rows = rows.none r; notes = notes.none n }; rows_quiet = refl; notes_quiet = refl }
+
+-- ---- A run part by part.
+
+pub through_none : {R N : Type 0} (k : Sinks R N) → IsSink k.to.row_gave k.to.row_within → IsSink k.to.note_gave k.to.note_within
+    → (run : Run) (r : R) (n : N) → run.cutter.ready ≡ false → Through k run run r r n n []
+unfolding point_after
+through_none k rows notes run r n free = record {
+  fed = λ s before h. record {
+    came = rw (made_none s before h.page.reached) (came_none k rows notes r n (settled_page s before).edge);
+    taken = rw append-nil h;
+  };
+  point = refl;
+  free = free;
+}
+
+pub through_more : {R N : Type 0} (k : Sinks R N) → IsSink k.to.row_gave k.to.row_within → IsSink k.to.note_gave k.to.note_within
+    → {run mid run' : Run} {r a a' : R} {n b b' : N} (xs ys : List ℕ)
+    → Through k run mid r a n b xs → Through k mid run' a a' b b' ys → Through k run run' r a' n b' (xs ++ ys)
+through_more k rows notes {run} xs ys f g = record {
+  fed = λ s before h.
+      let x = f.fed s before h in
+      let y = g.fed s (before ++ xs) x.taken in record {
+        came = rw (made_more s before xs ys h.page.reached) (came_both k rows notes (settled_by s before xs) (settled_by s (before ++ xs) ys) x.came y.came);
+        taken = rw (← append_assoc before xs ys) y.taken;
+      };
+  point = g.point ∙ (ap (λ p. point_after p ys) f.point ∙ sym (point_after-append run.cutter.point xs ys));
+  free = g.free;
+}
+
+-- what is held inside of a run that takes bytes
+pub taken_inside : {phase : Phase} {x : RunState} (run : Run) (s : PageSettings) (bytes : List ℕ)
+    → record { phase = phase; page = run.page; point = run.cutter.point } ≡ x → HasTaken x s bytes → HasTaken (state_of run) s bytes
+taken_inside run s bytes is h =
+    let i = subst (λ (y : RunState). HasTaken y s bytes) (sym is) h in
+    record { phase = refl; page = i.page; point = i.point }
+
+pub room_inside : {phase : Phase} (run : Run) (left : ℕ) → phase ≡ open_phase → HasRoom phase run left → HasRoom open_phase run left
+room_inside run left is room = rw is at room
+
+-- how many bytes more it may have taken
+pub room_left : (run : Run) (left : ℕ) (s : PageSettings) (bytes : List ℕ) → HasTaken (state_of run) s bytes → HasRoom open_phase run left
+    → length bytes + left ≡ 2 ^ 31 - 1
+room_left run left s bytes h room = omega (arith, room.1, consumed_is s bytes run.cutter.point h.point)
+
+pub room_after : {R N : Type 0} {k : Sinks R N} {run mid : Run} {r a : R} {n b : N} (xs : List ℕ) (count more : ℕ) → Through k run mid r a n b xs
+    → CanTake run count → length xs + more ≤ count → CanTake mid more
+room_after {run = run} xs count more t c h = record {
+  free = t.free;
+  room = omega (arith, c.room, h, ap (λ p. p.line.consumed) t.point, consumed_more run.cutter.point xs);
+}
+
+-- ---- what waits is put out
 
 -- nothing waits in either
 pub both_out : (res : Result (Unit {0}) Fault) (P Q : Type 0) → P → OnOk res Q → OnOk res (P × Q)
@@ -275,128 +336,38 @@ pub rows_broke : {R N : Type 0} (k : Sinks R N) → ((n n' : N) (xs : List Messa
 rows_broke k w r r' n n' fault (Ok _) g f h = record { gave = record { rows = g; notes = w n n' [] h }; cause = rw f.0 f.1 }
 rows_broke k w r r' n n' fault (Err other) g f h = record { gave = record { rows = g; notes = h }; cause = rw f.0 f.1 }
 
-settles_out : {R N : Type 0} (k : Sinks R N) → IsSink k.to.row_gave k.to.row_within → IsSink k.to.note_gave k.to.note_within
-    → {here : PageState} {r a a' : R} {n b b' : N} (e : Edge) (p : Point) (xs : List ℕ)
-    → Settled k here r a n b e p xs → Came k a a' b b' no_more → Settled k here r a' n b' e p xs
-settles_out k rows notes e p xs s d = record { came = came_out k rows notes (settled_from e p xs) s.came d; at = s.at }
+-- what came, and then nothing more
+pub came_out : {R N E : Type 0} (k : Sinks R N) → IsSink k.to.row_gave k.to.row_within → IsSink k.to.note_gave k.to.note_within
+    → {r a a' : R} {n b b' : N} (laid : Laid E) → Came k r a n b laid → Came k a a' b b' no_more → Came k r a' n b' laid
+came_out k rows notes {r} {a} {a'} {n} {b} {b'} laid c d =
+    let all = came_both k rows notes laid no_more c d in
+    record { gave = record { rows = rw append-nil at all.gave.rows; notes = rw append-nil at all.gave.notes }; rows_quiet = all.rows_quiet; notes_quiet = all.notes_quiet }
 
--- after a chunk
-pub chunk_out : {R N : Type 0} (k : Sinks R N) → IsSink k.to.row_gave k.to.row_within → IsSink k.to.note_gave k.to.note_within
-    → {run mid : Run} {r a : R} {n b : N} (a' : R) (b' : N) (xs : List ℕ) (res : Result (Unit {0}) Fault)
-    → Through k run mid r a n b xs → PutsOut res k a a' b b' → TakesChunk res k run mid r a' n b' xs
-unfolding lines_within
-chunk_out k rows notes {run} a' b' xs (Ok _) s d = record {
-  settled = λ e h. settles_out k rows notes e run.cutter.point xs (s.settled e h) d;
-  moved = s.moved;
+pub front_out : {R N E : Type 0} (k : Sinks R N) → IsSink k.to.row_gave k.to.row_within → IsSink k.to.note_gave k.to.note_within
+    → {r a a' : R} {n b b' : N} (laid : Laid E) (fault : Fault) → Came k r a n b laid → Front k a a' b b' no_more fault → Front k r a' n b' laid fault
+front_out k rows notes {r} {a} {a'} {n} {b} {b'} laid fault c d =
+    let all = front_both k rows notes laid no_more fault c d in
+    record { gave = record { rows = rw append-nil at all.gave.rows; notes = rw append-nil at all.gave.notes }; cause = all.cause }
+
+-- after a piece
+pub piece_out : {R N : Type 0} (k : Sinks R N) → IsSink k.to.row_gave k.to.row_within → IsSink k.to.note_gave k.to.note_within
+    → {run : RunState} {r a a' : R} {n b b' : N} (s : PageSettings) (before xs : List ℕ)
+    → Fed k r a n b s before xs run → Came k a a' b b' no_more → Fed k r a' n b' s before xs run
+piece_out k rows notes s before xs f d = record { came = came_out k rows notes (settled_by s before xs) f.came d; taken = f.taken }
+
+pub piece_kept : {R N : Type 0} (k : Sinks R N) {run : RunState} {r a a' : R} {n b b' : N} (s : PageSettings) (before xs : List ℕ) (fault : Fault)
+    → Fed k r a n b s before xs run → Front k a a' b b' no_more fault → BrokeAt k r a' n b' s before xs fault
+piece_kept k {a = a} {b = b} s before xs fault f d = record {
+  before = xs;
+  own = [];
+  left = [];
+  parts = sym (append-nil xs);
+  rows = a;
+  notes = b;
+  whole = f.came;
+  one = rw (none_made s (before ++ xs)) (omega arith);
+  front = rw (made_none s (before ++ xs) f.taken.page.reached) record { gave = record { rows = d.gave.rows; notes = d.gave.notes }; cause = d.cause };
 }
-chunk_out k rows notes {run} {a = a} {b = b} a' b' xs (Err fault) s d = λ e h.
-    let f = s.settled e h in
-    let x = settled_from e run.cutter.point xs in record {
-      before = xs;
-      after = [];
-      parts = sym (append-nil xs);
-      rows = a;
-      notes = b;
-      whole = f.came;
-      broke = record {
-        count = 0;
-        one = omega arith;
-        front = rw (from_none x.edge (point_after run.cutter.point xs) f.at.reached)
-            record { gave = record { rows = d.gave.rows; notes = d.gave.notes }; cause = d.cause };
-      };
-    }
-
--- ---- room for more
-
-pub room_after : {run mid : Run} (xs : List ℕ) (count more : ℕ) → Moved run mid xs → CanTake run count → length xs + more ≤ count → CanTake mid more
-room_after {run} {mid} xs count more m c h = record {
-  free = m.free;
-  room = omega (arith, c.room, h, ap (λ p. p.line.consumed) m.point, consumed_more run.cutter.point xs);
-  few_lines = omega (
-    arith,
-    c.few_lines,
-    m.lines_taken,
-    lines_most run.cutter.point xs,
-    ap (λ p. length (last_line p)) m.point,
-    ap (λ p. p.line.consumed) m.point,
-    consumed_more run.cutter.point xs,
-  );
-}
-
--- ---- a sink failed
-
-cut_parts : (xs bs as_ : List ℕ) (n : ℕ) → xs ++ (bs ++ as_) ≡ (xs ++ bs) ++ (take n as_ ++ drop n as_)
-cut_parts xs bs as_ n = sym (append_assoc xs bs as_) ∙ ap (λ l. (xs ++ bs) ++ l) (sym (take-append-drop n as_))
-
--- in a chunk after bytes that were taken
-pub broken_chunk : {R N : Type 0} (k : Sinks R N) → IsSink k.to.row_gave k.to.row_within → IsSink k.to.note_gave k.to.note_within
-    → {run mid : Run} {r a a' : R} {n b b' : N} (xs ys : List ℕ) (fault : Fault) → Through k run mid r a n b xs
-    → ((e : Edge) → IsOpenAt mid.page e → ChunkBroke k a a' b b' e mid.cutter.point ys fault) → length ys ≤ 2 ^ 14
-    → (e : Edge) → IsOpenAt run.page e → BrokenFrom k r a' n b' e run.cutter.point (xs ++ ys) fault
-broken_chunk k rows notes {run} {mid} {r} {a} {a'} {n} {b} {b'} xs ys fault s t m e h =
-    let p = run.cutter.point in
-    let q = mid.cutter.point in
-    let f = s.settled e h in
-    let x = settled_from e p xs in
-    let c = t x.edge f.at in
-    let y = settled_from x.edge q c.before in
-    let w = settled_more e p q xs c.before h.reached s.moved.point in
-    let z = point_after-append p xs c.before ∙ ap (λ v. point_after v c.before) (sym s.moved.point) in record {
-      before = xs ++ c.before;
-      own = take c.broke.count c.after;
-      left = drop c.broke.count c.after;
-      parts = ap (λ l. xs ++ l) c.parts ∙ cut_parts xs c.before c.after c.broke.count;
-      recent = omega (arith, m, ap length c.parts, length-append c.before c.after, ap length (take-append-drop c.broke.count c.after));
-      rows = c.rows;
-      notes = c.notes;
-      whole = rw w (both_gave rows notes c.rows c.notes x y f.came.gave c.whole.gave);
-      front = rw (w, z) (inl (c.broke.one, c.broke.front.gave));
-      cause = cause_later fault _ _ _ _ _ _ (c.whole.rows_quiet ∙ f.came.rows_quiet) (c.whole.notes_quiet ∙ f.came.notes_quiet) c.broke.front.cause;
-    }
-
--- at the end, after all bytes were taken
-pub broken_end : {R N : Type 0} (k : Sinks R N) {run mid : Run} {r a a' : R} {n b b' : N} (xs : List ℕ) (fault : Fault) → Through k run mid r a n b xs
-    → ((e : Edge) → IsOpenAt mid.page e → Front k a a' b b' (page e (last_line mid.cutter.point)) fault)
-    → (e : Edge) → IsOpenAt run.page e → BrokenFrom k r a' n b' e run.cutter.point xs fault
-broken_end k {run} {mid} {r} {a} {a'} {n} {b} {b'} xs fault s t e h =
-    let f = s.settled e h in
-    let c = t (settled_from e run.cutter.point xs).edge f.at in record {
-      before = xs;
-      own = [];
-      left = [];
-      parts = sym (append-nil xs);
-      recent = omega arith;
-      rows = a;
-      notes = b;
-      whole = f.came.gave;
-      front = rw (← s.moved.point) (inr (refl, refl, c.gave));
-      cause = cause_later fault _ _ _ _ _ _ f.came.rows_quiet f.came.notes_quiet c.cause;
-    }
-
--- what came is a front of the page that the bytes make
-front_of : {R N : Type 0} (j : Streams R N) → IsSink j.row_gave j.row_within → IsSink j.note_gave j.note_within
-    → {r a r' : R} {n b n' : N} (e : Edge) (p : Point) (before own left bytes : List ℕ) → IsReached e → bytes ≡ before ++ (own ++ left)
-    → AllCame j r a n b (settled_from e p before) → BrokeFrom j a r' b n' (settled_from e p before).edge (point_after p before) own left
-    → FrontCame j r r' n n' (page_from e p bytes)
-front_of j rows notes {r} {a} {r'} {n} {b} {n'} e p before own left bytes k h g (inl f) =
-    let q = point_after p before in
-    let x = settled_from e p before in
-    let y = settled_from x.edge q own in
-    let u = settled_from e p (before ++ own) in
-    let c : FrontCame j r r' n n' u = rw (settled_more e p q before own k refl) (both_within rows notes r' n' x y g f.1) in
-    let v = settled_from u.edge (point_after p (before ++ own)) left in
-    let d : FrontCame j r r' n n' (settled_from e p ((before ++ own) ++ left)) =
-    rw (settled_more e p (point_after p (before ++ own)) (before ++ own) left k refl) (within-join rows notes r r' n n' u v c) in
-    rw (h, ← append_assoc before own left) (page_front rows notes r r' n n' e p ((before ++ own) ++ left) k d)
-front_of j rows notes {r} {a} {r'} {n} {b} {n'} e p before own left bytes k h g (inr f) =
-    let x = settled_from e p before in
-    let i : bytes ≡ before = rw (f.0, f.1, append-nil) at h in
-    rw (i, page_last e p (point_after p before) before k refl) (both_within rows notes r' n' x (page x.edge (last_line (point_after p before))) g f.2)
-
-pub broken_front : {R N : Type 0} (k : Sinks R N) → IsSink k.to.row_gave k.to.row_within → IsSink k.to.note_gave k.to.note_within
-    → {r r' : R} {n n' : N} (e : Edge) (p : Point) (bytes : List ℕ) (fault : Fault) → IsReached e → BrokenFrom k r r' n n' e p bytes fault
-    → FrontCame k.to r r' n n' (page_from e p bytes)
-broken_front k rows notes e p bytes fault i c = front_of k.to rows notes e p c.before c.own c.left bytes i c.parts c.whole c.front
 
 -- ---- chunks of what was read
 
@@ -407,8 +378,21 @@ all_done xs ys (z ∷ zs) h n = absurd (omega arith)
 pub part_of : (xs ys zs : List ℕ) (n : ℕ) → xs ≡ ys ++ zs → xs ≡ (ys ++ take n zs) ++ drop n zs
 part_of xs ys zs n h = h ∙ (ap (λ l. ys ++ l) (sym (take-append-drop n zs)) ∙ sym (append_assoc ys (take n zs) (drop n zs)))
 
-pub fresh_room : (run : Run) (count : ℕ) → IsFresh run → count < 2 ^ 31 → CanTake run count
-fresh_room run count f h = record { free = f.free; room = omega (arith, f.room, h); few_lines = omega (arith, f.no_lines, ap length f.no_line) }
+-- a sink failed in the rest of a chunk
+pub part_broke : {R N : Type 0} (k : Sinks R N) {r a r' : R} {n b n' : N} (s : PageSettings) (before chunk done rest : List ℕ) (fault : Fault)
+    → chunk ≡ done ++ rest → Came k r a n b (settled_by s before done) → PartBroke k a r' b n' s (before ++ done) rest fault
+    → BrokeAt k r r' n n' s before chunk fault
+part_broke k {a = a} {b = b} s before chunk done rest fault parts came p = record {
+  before = done;
+  own = take p.count rest;
+  left = drop p.count rest;
+  parts = parts ∙ ap (λ l. done ++ l) (sym (take-append-drop p.count rest));
+  rows = a;
+  notes = b;
+  whole = came;
+  one = p.one;
+  front = p.front;
+}
 
 -- ---- The causes of faults, from sinks to what lies below them.
 
@@ -448,9 +432,9 @@ module _ {R N W V : Type 0} (k : Sinks R N) (i : Sinks W V) (f : R → W) (g : N
   broke_on : (r r' : R) (n n' : N) (s : PageSettings) (before own left : List ℕ) → P n → BrokeIn k.to r r' n n' s before own left
       → BrokeIn i.to (f r) (f r') (g n) (g n') s before own left
   broke_on r r' n n' s before own left q (inl h) =
-      inl (h.0, front_on r r' n n' (settled (settled_page s before).edge (lines_made s.encoding before own)) q h.1)
+      inl (h.0, front_on r r' n n' (settled_by s before own) q h.1)
   broke_on r r' n n' s before own left q (inr h) =
-      inr (h.0, h.1, front_on r r' n n' (page (settled_page s before).edge (line_left s.encoding before)) q h.2)
+      inr (h.0, h.1, front_on r r' n n' (page_rest s before) q h.2)
 
   broken_on : (r r' : R) (n n' : N) (s : PageSettings) (bytes : List ℕ) (fault : Fault) → P n → Broken k r r' n n' s bytes fault → Broken i (f r) (f r') (g n) (g n') s bytes fault
   broken_on r r' n n' s bytes fault q h = record {

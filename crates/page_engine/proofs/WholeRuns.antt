@@ -1,249 +1,179 @@
 -- Whole runs.
-use Rattle.std.proofs.Common.{◌≡◌, ℕ, ◌-◌, ◌^◌, List, [], length, take, inl, inr, Result, Ok, Err, MatchResult, refl, sym, ap, ◌∙◌, subst, arith, ◌<◌, ◌++◌, Some, append-nil, length-append}
+use Rattle.std.proofs.Common.{◌≡◌, ℕ, ◌-◌, ◌^◌, List, [], length, take, inl, inr, Result, Ok, Err, MatchResult, refl, sym, ap, ◌∙◌, arith, ◌<◌, ◌≤◌, ◌++◌, Some, append-nil, append_assoc, length-append}
 use Rattle.std.specs.Io.KnownBytes.{IsAtEnd}
+use Rattle.std.proofs.lemmas.List.{take-append-le}
 use Rattle.page_core_base.specs.laws.Views.{IsSink}
-use Rattle.page_core_base.specs.Rows.{Laid, nothing, LaidRow}
+use Rattle.page_core_base.specs.Messages.{Message}
+use Rattle.page_core_base.specs.Rows.{Laid, join, nothing, LaidRow}
 use Rattle.page_core_base.specs.Settings.{IsGood, IsFirst}
 use Rattle.page_core_base.specs.declared.faults.Fault.{Fault}
 use Rattle.page_core_base.specs.declared.faults.Fault.TheVariants.{Memory, Read, WriteText, WriteNotes, TooLong, Settings, Failed, Ended, BadIndex}
 use Rattle.page_core_base.specs.declared.page_settings.Settings.{Settings as PageSettings}
 use Rattle.page_core_base.specs.declared.page_settings.SettingFault.{SettingFault}
-use Rattle.page_roff_lines.specs.Lines.{lines}
-use Rattle.page_roff_lines.specs.laws.Cutting.{Point, first_point, point_after, lines_from, last_line}
-use Rattle.page_roff_lines.proofs.WholeLemmas.{whole-is, made-is, left-is}
-use Rattle.page_roff_lines.proofs.LineAgreement.{lines-one_by_one}
-use Rattle.page_engine.specs.declared.runs.Outcome.{Outcome}
-use Rattle.page_engine.specs.declared.runs.Run.{Run}
-use Rattle.page_engine.specs.laws.States.{IsOpenAt, CannotStart, Ends}
-use Rattle.page_engine.specs.laws.Reads.{IsOut, MayRead}
-use Rattle.page_engine.specs.Edges.{Edge, start}
-use Rattle.page_engine.specs.laws.Views.{counts_at, RunsIn}
-use Rattle.page_engine.specs.Page.{page, settled}
-use Rattle.page_core_streams.specs.declared.chunks.Chunks.{Chunks}
-use Rattle.page_core_streams.specs.laws.Views.{AreRead, Stops, source_state}
-use Rattle.page_core_base.specs.Messages.{Rose, Message}
-use Rattle.page_core_streams.specs.Streams.{SourceState, IsTooLong}
-use Rattle.page_engine.specs.Runs.{Streams, Sinks, AllCame, FrontCame, RunsOver, Stopped, StoppedBy, BrokeIn, Broken, whole_page, settled_page}
-use Rattle.page_engine.specs.machine.Steps.{page_from, settled_from, BrokeFrom, BrokenFrom, source_lines, TookLast, PutsOut, Finished, Finishes, Through, EndedWell, StoppedFrom, StartsAt, IsFresh, ReadsAll}
-use Rattle.page_engine.specs.machine.PageSinks.{cause_later}
-use Rattle.page_roff_source.specs.declared.counts.Counts.{Counts}
+use Rattle.page_core_base.proofs.LatchLemmas.{within-join}
+use Rattle.page_core_streams.specs.Streams.{SourceState, HasGiven, IsLean}
+use Rattle.page_core_streams.specs.laws.Views.{Stops, source_state}
 use Rattle.page_core_streams.proofs.AsciiLemmas.{given_none, lean_none, lean_long}
-use Rattle.page_engine.proofs.Through.{both_gave, both_within, page_last, lines_last, broken_front, broken_end, came_out, front_out, first_none}
-use Rattle.page_engine.proofs.WholeLines.{start_reached, page_end, end_counts}
-use Rattle.std.proofs.lemmas.List.{take-append-le}
-
--- from the start of a page
-pub page_start : (s : PageSettings) (bytes : List ℕ) → page_from (start s) (first_point s.encoding) bytes ≡ whole_page s bytes
-page_start s bytes = ap (page (start s)) (sym (lines-one_by_one s.encoding bytes))
-
-settled_start : (s : PageSettings) (bytes : List ℕ) → settled_from (start s) (first_point s.encoding) bytes ≡ settled_page s bytes
-settled_start s bytes = ap (settled (start s)) (sym (whole-is s.encoding bytes))
-
--- before the first byte
-pub starts_fresh : (run : Run) (s : PageSettings) → StartsAt run s → IsFresh run
-starts_fresh run s h = record {
-  room = ap (λ (p : Point). p.line.consumed) h.point;
-  free = h.free;
-  no_line = ap (λ (p : Point). last_line p) h.point ∙ first_none s.encoding;
-  no_lines = h.no_lines;
-}
-
--- between two chunks a run may read
-pub may_read : {R N : Type 0} (k : Sinks R N) (rows_out : R → Type 0) (notes_out : N → Type 0) {run mid : Run} {r a : R} {n b : N} (source seen : SourceState) (chunks : Chunks)
-    (bytes : List ℕ) (s : PageSettings) → StartsAt run s → AreRead source seen chunks bytes → Through k run mid r a n b bytes → IsOut rows_out notes_out r a n b
-    → MayRead k.to rows_out notes_out mid chunks seen a b
-may_read k rows_out notes_out {run} {mid} {r} {a} {n} {b} source seen chunks bytes s h read t out =
-    let same : settled_from (start s) run.cutter.point bytes ≡ settled_page s bytes = ap (λ (p : Point). settled_from (start s) p bytes) h.point ∙ settled_start s bytes in
-    let d = t.settled (start s) h.at in record {
-      settings = s;
-      bytes = bytes;
-      source = source;
-      rows = r;
-      notes = n;
-      read = read;
-      page = subst (λ (l : Laid Edge). IsOpenAt mid.page l.edge) same d.at;
-      point = t.moved.point ∙ ap (λ (p : Point). point_after p bytes) h.point;
-      came = subst (λ (l : Laid Edge). AllCame k.to r a n b l) same d.came.gave;
-      out = out;
-    }
-
--- what broke from the first point on is said by lists of lines alone
-broke_start : {R N : Type 0} (j : Streams R N) (r r' : R) (n n' : N) (s : PageSettings) (before own left : List ℕ)
-    → BrokeFrom j r r' n n' (settled_from (start s) (first_point s.encoding) before).edge (point_after (first_point s.encoding) before) own left
-    → BrokeIn j r r' n n' s before own left
-broke_start j r r' n n' s before own left (inl h) = rw (made-is s.encoding before own, ← settled_start s before) (inl h)
-broke_start j r r' n n' s before own left (inr h) = rw (left-is s.encoding before, ← settled_start s before) (inr h)
-
-broken_start : {R N : Type 0} (k : Sinks R N) (r r' : R) (n n' : N) (s : PageSettings) (bytes : List ℕ) (fault : Fault)
-    → BrokenFrom k r r' n n' (start s) (first_point s.encoding) bytes fault → Broken k r r' n n' s bytes fault
-broken_start k r r' n n' s bytes fault h = record {
-  before = h.before;
-  own = h.own;
-  left = h.left;
-  parts = h.parts;
-  recent = h.recent;
-  rows = h.rows;
-  notes = h.notes;
-  whole = rw (← settled_start s h.before) h.whole;
-  front = broke_start k.to h.rows r' h.notes n' s h.before h.own h.left h.front;
-  cause = h.cause;
-}
+use Rattle.page_roff_lines.specs.Lines.{lines, line_left}
+use Rattle.page_engine.specs.declared.runs.Outcome.{Outcome}
+use Rattle.page_engine.specs.laws.States.{PageState, IsOpenAt, IsEndedAt, CannotStart}
+use Rattle.page_engine.specs.laws.Reads.{RunState, HasTaken, Fed, BrokeAt}
+use Rattle.page_engine.specs.Edges.{Edge, start}
+use Rattle.page_engine.specs.laws.Views.{Came, Front, RunsIn}
+use Rattle.page_engine.specs.Page.{page}
+use Rattle.page_engine.specs.Runs.{Streams, Sinks, AllCame, FrontCame, RunsOver, Broken, whole_page, settled_page, settled_by, page_rest}
+use Rattle.page_engine.specs.machine.Steps.{last_settled, PutsOut}
+use Rattle.page_engine.specs.machine.PageSinks.{cause_later}
+use Rattle.page_engine.proofs.Items.{counts_end}
+use Rattle.page_engine.proofs.Through.{page_more, page_whole, source_is, both_within, came_both, front_both, came_out, front_out}
+use Rattle.page_engine.proofs.WholeLines.{page_end}
 
 -- ---- the end of the bytes
 
--- the last line was taken, and then the page's end
+-- the last line was taken, then the page's end, and it is put out
+rest_is : (s : PageSettings) (bytes : List ℕ) {p : PageState} → IsOpenAt p (settled_page s bytes).edge
+    → page_rest s bytes ≡ join (last_settled s bytes) (page (last_settled s bytes).edge [])
+rest_is s bytes h = page_end (settled_page s bytes).edge (line_left s.encoding bytes) h.reached
+
 pub finished : {R N : Type 0} (k : Sinks R N) → IsSink k.to.row_gave k.to.row_within → IsSink k.to.note_gave k.to.note_within
-    → (run mid run' : Run) (r a r' : R) (n b n' : N) (res : Result (Unit {0}) Fault) → TookLast k run mid r a n b
-    → ((e : Edge) → IsOpenAt mid.page e → Ends res k a r' b n' e (page e []) run'.page) → Finishes res k run run' r r' n n'
-finished k rows notes run mid run' r a r' n b n' (Ok o) t ends = record {
-  came = λ e h.
-      let l = settled e (last_line run.cutter.point) in
-      let c = t.came e h in
-      let f = (ends l.edge (t.at e h)).0 in record {
-        gave = rw (page_end e (last_line run.cutter.point) h.reached) (both_gave rows notes r' n' l (page l.edge []) c.gave f.gave);
-        rows_quiet = f.rows_quiet ∙ c.rows_quiet;
-        notes_quiet = f.notes_quiet ∙ c.notes_quiet;
-      };
-  worst = λ e h.
-      (ends (settled e (last_line run.cutter.point)).edge (t.at e h)).1.worst
-      ∙ sym (ap (λ (l : Laid Edge). l.edge.worst) (page_end e (last_line run.cutter.point) h.reached));
-  lines_taken = λ e h.
-      let f = settled e (last_line run.cutter.point) in
-      let same = (ends f.edge (t.at e h)).1.counts ∙ end_counts f.edge (t.at e h).reached ∙ sym (t.at e h).counts in
-      ap (λ (c : Counts). c.source) same ∙ t.lines_taken;
-  counts = λ e h.
-      (ends (settled e (last_line run.cutter.point)).edge (t.at e h)).1.counts
-      ∙ sym (ap (λ (l : Laid Edge). counts_at l.edge) (page_end e (last_line run.cutter.point) h.reached));
+    → {r a a' : R} (r' : R) {n b b' : N} (n' : N) {p p' : PageState} (s : PageSettings) (bytes : List ℕ) (res : Result (Unit {0}) Fault)
+    → IsOpenAt p (settled_page s bytes).edge → Came k r a n b (last_settled s bytes)
+    → Came k a a' b b' (page (last_settled s bytes).edge []) × IsEndedAt p' (page (last_settled s bytes).edge []).edge → PutsOut res k a' r' b' n'
+    → MatchResult res (λ _. Came k r r' n n' (page_rest s bytes) × IsEndedAt p' (whole_page s bytes).edge) (λ fault. Front k r r' n n' (page_rest s bytes) fault)
+finished k rows notes r' n' s bytes (Ok _) h last end out =
+    let l = last_settled s bytes in
+    let same : (page l.edge []).edge ≡ (whole_page s bytes).edge =
+    sym (ap (λ (x : Laid Edge). x.edge) (page_whole s bytes ∙ ap (join (settled_page s bytes)) (rest_is s bytes h))) in (
+      came_out k rows notes (page_rest s bytes) (rw (rest_is s bytes h) (came_both k rows notes l (page l.edge []) last end.0)) out,
+      rw same at end.1,
+    )
+finished k rows notes r' n' s bytes (Err fault) h last end out =
+    let l = last_settled s bytes in
+    front_out k rows notes (page_rest s bytes) fault (rw (rest_is s bytes h) (came_both k rows notes l (page l.edge []) last end.0)) out
+
+-- a sink failed at the end
+pub end_broke : {R N : Type 0} (k : Sinks R N) → IsSink k.to.row_gave k.to.row_within → IsSink k.to.note_gave k.to.note_within
+    → {r a r' : R} {n b n' : N} {p : PageState} (s : PageSettings) (bytes : List ℕ) (fault : Fault)
+    → IsOpenAt p (settled_page s bytes).edge → Came k r a n b (last_settled s bytes)
+    → Front k a r' b n' (page (last_settled s bytes).edge []) fault → Front k r r' n n' (page_rest s bytes) fault
+end_broke k rows notes s bytes fault h last end =
+    let l = last_settled s bytes in rw (rest_is s bytes h) (front_both k rows notes l (page l.edge []) fault last end)
+
+-- or at the last line
+pub last_broke : {R N : Type 0} (k : Sinks R N) → IsSink k.to.row_gave k.to.row_within → IsSink k.to.note_gave k.to.note_within
+    → {r r' : R} {n n' : N} {p : PageState} (s : PageSettings) (bytes : List ℕ) (fault : Fault)
+    → IsOpenAt p (settled_page s bytes).edge → Front k r r' n n' (last_settled s bytes) fault → Front k r r' n n' (page_rest s bytes) fault
+last_broke k rows notes {r} {r'} {n} {n'} s bytes fault h f =
+    let l = last_settled s bytes in rw (rest_is s bytes h) record {
+      gave = within-join rows notes r r' n n' l (page l.edge []) f.gave;
+      cause = f.cause;
+    }
+
+-- ---- a run that reads
+
+-- what was read was taken, and what it settles came
+pub record HasCome {R N : Type 0} (k : Sinks R N) (run : RunState) (r r' : R) (n n' : N) (s : PageSettings) (bytes : List ℕ) : Type 0 where
+  pub taken : HasTaken run s bytes
+  pub came : Came k r r' n n' (settled_page s bytes)
+
+pub come_more : {R N : Type 0} (k : Sinks R N) → IsSink k.to.row_gave k.to.row_within → IsSink k.to.note_gave k.to.note_within
+    → {run run' : RunState} {r a r' : R} {n b n' : N} (s : PageSettings) (xs ys : List ℕ)
+    → HasCome k run r a n b s xs → Fed k a r' b n' s xs ys run' → HasCome k run' r r' n n' s (xs ++ ys)
+come_more k rows notes s xs ys h f = record {
+  taken = f.taken;
+  came = rw (page_more s xs ys) (came_both k rows notes (settled_page s xs) (settled_by s xs ys) h.came f.came);
 }
-finished k rows notes run mid run' r a r' n b n' (Err fault) t ends = λ e h.
-    let l = settled e (last_line run.cutter.point) in
-    let c = t.came e h in
-    let f = (ends l.edge (t.at e h)).0 in record {
-      gave = rw (page_end e (last_line run.cutter.point) h.reached) (both_within rows notes r' n' l (page l.edge []) c.gave f.gave);
-      cause = cause_later fault _ _ _ _ _ _ c.rows_quiet c.notes_quiet f.cause;
+
+-- a sink failed at a chunk, or at the end
+pub broken_chunk : {R N : Type 0} (k : Sinks R N) → IsSink k.to.row_gave k.to.row_within → IsSink k.to.note_gave k.to.note_within
+    → {r a r' : R} {n b n' : N} (s : PageSettings) (xs ys : List ℕ) (fault : Fault) → length ys ≤ 2 ^ 14
+    → Came k r a n b (settled_page s xs) → BrokeAt k a r' b n' s xs ys fault → Broken k r r' n n' s (xs ++ ys) fault
+broken_chunk k rows notes s xs ys fault small came c =
+    let all = rw (← page_more s xs c.before) at (came_both k rows notes (settled_page s xs) (settled_by s xs c.before) came c.whole) in record {
+      before = xs ++ c.before;
+      own = c.own;
+      left = c.left;
+      parts = ap (λ l. xs ++ l) c.parts ∙ sym (append_assoc xs c.before (c.own ++ c.left));
+      recent = omega (arith, small, ap length c.parts, length-append c.before (c.own ++ c.left));
+      rows = c.rows;
+      notes = c.notes;
+      whole = all.gave;
+      front = inl (c.one, c.front.gave);
+      cause = cause_later fault _ _ _ _ _ _ all.rows_quiet all.notes_quiet c.front.cause;
     }
 
--- and then what waits is put out
-pub finished_out : {R N : Type 0} (k : Sinks R N) → IsSink k.to.row_gave k.to.row_within → IsSink k.to.note_gave k.to.note_within
-    → {run run' : Run} {r a : R} {n b : N} (a' : R) (b' : N) (res : Result (Unit {0}) Fault)
-    → Finished k run run' r a n b → PutsOut res k a a' b b' → Finishes res k run run' r a' n b'
-finished_out k rows notes {run} a' b' (Ok _) f d = record {
-  came = λ e h. came_out k rows notes (page e (last_line run.cutter.point)) (f.came e h) d;
-  worst = f.worst;
-  lines_taken = f.lines_taken;
-  counts = f.counts;
+pub broken_end : {R N : Type 0} (k : Sinks R N) {r a r' : R} {n b n' : N} (s : PageSettings) (bytes : List ℕ) (fault : Fault)
+    → Came k r a n b (settled_page s bytes) → Front k a r' b n' (page_rest s bytes) fault → Broken k r r' n n' s bytes fault
+broken_end k {a = a} {b = b} s bytes fault came f = record {
+  before = bytes;
+  own = [];
+  left = [];
+  parts = sym (append-nil bytes);
+  recent = omega arith;
+  rows = a;
+  notes = b;
+  whole = came.gave;
+  front = inr (refl, refl, f.gave);
+  cause = cause_later fault _ _ _ _ _ _ came.rows_quiet came.notes_quiet f.cause;
 }
-finished_out k rows notes {run} a' b' (Err fault) f d = λ e h. front_out k rows notes (page e (last_line run.cutter.point)) fault (f.came e h) d
 
-pub ended_well : {R N : Type 0} (k : Sinks R N) → IsSink k.to.row_gave k.to.row_within → IsSink k.to.note_gave k.to.note_within
-    → {run mid run' : Run} {r a r' : R} {n b n' : N} (s t : SourceState) (xs : List ℕ) → source_lines run ≡ 0
-    → Through k run mid r a n b xs → Finished k mid run' a r' b n' → IsAtEnd t.remaining → t.failed ≡ s.failed
-    → (e : Edge) → IsOpenAt run.page e → EndedWell k run' s t r r' n n' e run.cutter.point xs
-ended_well k rows notes {run} {mid} {run'} {r} {a} {r'} {n} {b} {n'} s t xs z g f i q e h =
-    let p = run.cutter.point in
-    let v = mid.cutter.point in
-    let x = settled_from e p xs in
-    let y = page x.edge (last_line v) in
-    let w = page_last e p v xs h.reached g.moved.point in
-    let d = g.settled e h in
-    let c = f.came x.edge d.at in record {
-      came = record {
-        gave = rw w (both_gave rows notes r' n' x y d.came.gave c.gave);
-        rows_quiet = c.rows_quiet ∙ d.came.rows_quiet;
-        notes_quiet = c.notes_quiet ∙ d.came.notes_quiet;
-      };
-      worst = f.worst x.edge d.at ∙ sym (ap (λ (l : Laid Edge). l.edge.worst) w);
-      source = omega (arith, f.lines_taken x.edge d.at, g.moved.lines_taken, z, lines_last p v xs g.moved.point);
-      counts = f.counts x.edge d.at ∙ sym (ap (λ (l : Laid Edge). counts_at l.edge) w);
-      all = i;
-      quiet = q;
-    }
+-- what came is a front of the page that the bytes make
+broken_front : {R N : Type 0} (k : Sinks R N) → IsSink k.to.row_gave k.to.row_within → IsSink k.to.note_gave k.to.note_within
+    → {r r' : R} {n n' : N} (s : PageSettings) (bytes : List ℕ) (fault : Fault) → Broken k r r' n n' s bytes fault → FrontCame k.to r r' n n' (whole_page s bytes)
+broken_front k rows notes {r} {r'} {n} {n'} s bytes fault c = elim c.front [
+  | inl f ↦
+      let x = c.before ++ c.own in
+      let own : FrontCame k.to r r' n n' (settled_page s x) =
+      rw (page_more s c.before c.own) (both_within rows notes r' n' (settled_page s c.before) (settled_by s c.before c.own) c.whole f.1) in
+      let all : FrontCame k.to r r' n n' (settled_page s (x ++ c.left)) =
+      rw (page_more s x c.left) (within-join rows notes r r' n n' (settled_page s x) (settled_by s x c.left) own) in
+      rw (c.parts, ← append_assoc c.before c.own c.left, page_whole s (x ++ c.left))
+      (within-join rows notes r r' n n' (settled_page s (x ++ c.left)) (page_rest s (x ++ c.left)) all)
+  | inr f ↦
+      let is : bytes ≡ c.before = rw (f.0, f.1, append-nil) at c.parts in
+      rw (is, page_whole s c.before) (both_within rows notes r' n' (settled_page s c.before) (page_rest s c.before) c.whole f.2)
+]
 
--- a fault of a sink stops the run
-pub stopped_by : {R N : Type 0} (k : Sinks R N) (a b : SourceState) (r r' : R) (n n' : N) (e : Edge) (p : Point) (asked : ℕ) (bytes : List ℕ) (fault : Fault)
-    → BrokenFrom k r r' n n' e p bytes fault → StoppedFrom k a b r r' n n' e p asked bytes fault
-stopped_by k a b r r' n n' e p asked bytes WriteText c = c
-stopped_by k a b r r' n n' e p asked bytes WriteNotes c = c
-stopped_by k a b r r' n n' e p asked bytes _ c = absurd c.cause
+pub stopped_by : {R N : Type 0} (k : Sinks R N) → IsSink k.to.row_gave k.to.row_within → IsSink k.to.note_gave k.to.note_within
+    → {a b : SourceState} {r r' : R} {n n' : N} (s : PageSettings) (asked : ℕ) (bytes : List ℕ) (fault : Fault) → IsGood s → asked ≤ 2 ^ 32 - 1
+    → HasGiven a b asked bytes → IsLean a b asked bytes → Broken k r r' n n' s bytes fault → RunsOver (Err fault) k a b r r' n n' s bytes
+stopped_by k rows notes s asked bytes WriteText g few source lean c =
+    record { asked = asked; few = few; source = source; lean = lean; runs = (g, broken_front k rows notes s bytes WriteText c); cause = c }
+stopped_by k rows notes s asked bytes WriteNotes g few source lean c =
+    record { asked = asked; few = few; source = source; lean = lean; runs = (g, broken_front k rows notes s bytes WriteNotes c); cause = c }
+stopped_by k rows notes s asked bytes _ g few source lean c = absurd c.cause
 
-pub ended_with : {R N : Type 0} (k : Sinks R N) → IsSink k.to.row_gave k.to.row_within → IsSink k.to.note_gave k.to.note_within
-    → {run mid : Run} {r a : R} {n b : N} (run' : Run) (r' : R) (n' : N) (res : Result (Unit {0}) Fault) (s t : SourceState) (asked : ℕ) (xs : List ℕ)
-    → source_lines run ≡ 0 → Through k run mid r a n b xs → Finishes res k mid run' a r' b n' → IsAtEnd t.remaining → t.failed ≡ s.failed
-    → (e : Edge) → IsOpenAt run.page e
-    → MatchResult res (λ _. EndedWell k run' s t r r' n n' e run.cutter.point xs) (λ fault. StoppedFrom k s t r r' n n' e run.cutter.point asked xs fault)
-ended_with k rows notes run' r' n' (Ok o) s t asked xs z g f i q e h = ended_well k rows notes s t xs z g f i q e h
-ended_with k rows notes {run} {r = r} {n = n} run' r' n' (Err fault) s t asked xs z g f i q e h =
-    stopped_by k s t r r' n n' e run.cutter.point asked xs fault (broken_end k xs fault g f e h)
+-- a fault of the source
+pub stopped_reading : {R N : Type 0} (fault : Fault) (k : Sinks R N) {a b : SourceState} {r r' : R} {n n' : N} (s : PageSettings) (bytes : List ℕ) → IsGood s
+    → Stops a b bytes fault → Came k r r' n n' (settled_page s bytes) → (all : List ℕ) × RunsOver (Err fault) k a b r r' n n' s all
+stopped_reading Read k s bytes g w c =
+    (bytes, record { asked = w.0; few = w.1.few; source = w.1.source; lean = w.1.lean; runs = (g, c.gave); cause = w.2 })
+stopped_reading TooLong k s bytes g w c =
+    (w.1, record { asked = w.0; few = w.2.few; source = w.2.source; lean = w.2.lean; runs = (g, rw w.4 c.gave); cause = w.3 })
+stopped_reading _ k s bytes g w c = absurd w
 
--- a fault of the source does
-pub stopped_reading : {R N : Type 0} (fault : Fault) (k : Sinks R N) {run mid : Run} {r a : R} {n b : N} (run' : Run) (s t : SourceState) (bytes : List ℕ)
-    → Stops s t bytes fault → Through k run mid r a n b bytes → (e : Edge) → IsOpenAt run.page e
-    → (all : List ℕ) × ReadsAll (Err fault) k run' s t r a n b e run.cutter.point all
-stopped_reading Read k run' s t bytes w g e h =
-    (bytes, record { asked = w.0; few = w.1.few; source = w.1.source; lean = w.1.lean; ends = ((g.settled e h).came.gave, w.2) })
-stopped_reading TooLong k run' s t bytes w g e h = (
-  w.1,
-  record { asked = w.0; few = w.2.few; source = w.2.source; lean = w.2.lean; ends = (rw w.4 (g.settled e h).came.gave, w.3) },
-)
-stopped_reading _ k run' s t bytes w g e h = absurd w
-
--- ---- from the start of a page
-
-stopped_run : {R N : Type 0} (k : Sinks R N) → IsSink k.to.row_gave k.to.row_within → IsSink k.to.note_gave k.to.note_within
-    → (a b : SourceState) (r r' : R) (n n' : N) (s : PageSettings) (asked : ℕ) (bytes : List ℕ) (fault : Fault) → IsGood s
-    → StoppedFrom k a b r r' n n' (start s) (first_point s.encoding) asked bytes fault → Stopped (λ (l : Laid Edge). AllCame k.to r r' n n' l) (λ (l : Laid Edge). FrontCame k.to r r' n n' l) s bytes fault
-stopped_run k rows notes a b r r' n n' s asked bytes Read g h = (g, rw (← settled_start s bytes) h.0)
-stopped_run k rows notes a b r r' n n' s asked bytes WriteText g h =
-    (g, rw (← page_start) (broken_front k rows notes (start s) (first_point s.encoding) bytes WriteText (start_reached s) h))
-stopped_run k rows notes a b r r' n n' s asked bytes WriteNotes g h =
-    (g, rw (← page_start) (broken_front k rows notes (start s) (first_point s.encoding) bytes WriteNotes (start_reached s) h))
-stopped_run k rows notes a b r r' n n' s asked bytes TooLong g h = (g, rw (← settled_start s (take (2 ^ 31 - 1) bytes)) h.0)
-stopped_run k rows notes a b r r' n n' s asked bytes _ g h = absurd h
-
-cause_of : {R N : Type 0} (k : Sinks R N) (a b : SourceState) (r r' : R) (n n' : N) (s : PageSettings) (asked : ℕ) (bytes : List ℕ) (fault : Fault)
-    → StoppedFrom k a b r r' n n' (start s) (first_point s.encoding) asked bytes fault
-    → StoppedBy ((b ≡ a) × (r' ≡ r) × (n' ≡ n)) (Rose a.failed b.failed) (IsTooLong asked bytes) (λ f. Broken k r r' n n' s bytes f) fault
-cause_of k a b r r' n n' s asked bytes Read h = h.1
-cause_of k a b r r' n n' s asked bytes WriteText h = broken_start k r r' n n' s bytes WriteText h
-cause_of k a b r r' n n' s asked bytes WriteNotes h = broken_start k r r' n n' s bytes WriteNotes h
-cause_of k a b r r' n n' s asked bytes TooLong h = h.1
-cause_of k a b r r' n n' s asked bytes _ h = absurd h
-
--- a run that stopped
-pub runs_stopped : {R N : Type 0} (k : Sinks R N) → IsSink k.to.row_gave k.to.row_within → IsSink k.to.note_gave k.to.note_within
-    → {run' : Run} {a b : SourceState} {r r' : R} {n n' : N} (s : PageSettings) (p : Point) (bytes : List ℕ) (fault : Fault) → p ≡ first_point s.encoding → IsGood s
-    → ReadsAll (Err fault) k run' a b r r' n n' (start s) p bytes → RunsOver (Err fault) k a b r r' n n' s bytes
-runs_stopped k rows notes {a = a} {b = b} {r = r} {r' = r'} {n = n} {n' = n'} s p bytes fault q g h =
-    let f = rw q at h.ends in record {
-      asked = h.asked;
-      few = h.few;
-      source = h.source;
-      lean = h.lean;
-      runs = stopped_run k rows notes a b r r' n n' s h.asked bytes fault g f;
-      cause = cause_of k a b r r' n n' s h.asked bytes fault f;
-    }
-
--- a run that ended well
-pub runs_well : {R N : Type 0} (k : Sinks R N) {run' : Run} {a b : SourceState} {r r' : R} {n n' : N} (s : PageSettings) (p : Point) (bytes : List ℕ) (o : Outcome)
-    → p ≡ first_point s.encoding → IsGood s → ReadsAll (Ok tt) k run' a b r r' n n' (start s) p bytes
-    → o.worst ≡ run'.page.worst → o.counts ≡ run'.page.counts
-    → RunsOver (Ok o) k a b r r' n n' s bytes
-runs_well k s p bytes o q g h ow oc =
-    let f = rw q at h.ends in
-    let l : length (lines_from (first_point s.encoding) bytes) ≡ length (lines s.encoding bytes) = ap length (sym (lines-one_by_one s.encoding bytes)) in record {
-      asked = h.asked;
-      few = h.few;
-      source = h.source;
-      lean = h.lean;
+-- a good end
+pub runs_well : {R N : Type 0} (k : Sinks R N) → IsSink k.to.row_gave k.to.row_within → IsSink k.to.note_gave k.to.note_within
+    → {a b : SourceState} {r m r' : R} {n l n' : N} {p : PageState} (s : PageSettings) (asked : ℕ) (bytes : List ℕ) (o : Outcome) → IsGood s → asked ≤ 2 ^ 32 - 1
+    → HasGiven a b asked bytes → IsLean a b asked bytes → IsAtEnd b.remaining → b.failed ≡ a.failed
+    → Came k r m n l (settled_page s bytes) → Came k m r' l n' (page_rest s bytes) → IsEndedAt p (whole_page s bytes).edge
+    → o.worst ≡ p.worst → o.counts ≡ p.counts → RunsOver (Ok o) k a b r r' n n' s bytes
+runs_well k rows notes s asked bytes o g few source lean at quiet came rest ended ow oc =
+    let all = rw (← page_whole s bytes) at (came_both k rows notes (settled_page s bytes) (page_rest s bytes) came rest) in
+    let counts = oc ∙ ended.counts in record {
+      asked = asked;
+      few = few;
+      source = source;
+      lean = lean;
       runs = record {
-        gave = rw (← page_start) f.came.gave;
-        worst = ow ∙ (f.worst ∙ ap (λ (m : Laid Edge). m.edge.worst) (page_start s bytes));
-        source = ap (λ (c : Counts). c.source) oc ∙ (f.source ∙ l);
-        counts = oc ∙ (f.counts ∙ ap (λ (m : Laid Edge). counts_at m.edge) (page_start s bytes));
+        gave = all.gave;
+        worst = ow ∙ ended.worst;
+        source = source_is o.counts s (lines s.encoding bytes) (counts ∙ counts_end (start s) (lines s.encoding bytes));
+        counts = counts;
         good = g;
-        all = f.all;
+        all = at;
       };
-      cause = (f.quiet, f.came.rows_quiet, f.came.notes_quiet);
+      cause = (quiet, all.rows_quiet, all.notes_quiet);
     }
 
 -- ---- nothing was read or given

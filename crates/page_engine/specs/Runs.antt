@@ -58,6 +58,13 @@ whole_page settings bytes = page (start settings) (lines settings.encoding bytes
 abbrev pub settled_page : PageSettings → List ℕ → Laid Edge
 settled_page settings bytes = settled (start settings) (whole_lines settings.encoding bytes)
 
+-- what bytes settle after those before them: the lines that they make whole; and the rest of a page that ends after bytes
+abbrev pub settled_by : PageSettings → (before own : List ℕ) → Laid Edge
+settled_by settings before own = settled (settled_page settings before).edge (lines_made settings.encoding before own)
+
+abbrev pub page_rest : PageSettings → List ℕ → Laid Edge
+page_rest settings bytes = page (settled_page settings bytes).edge (line_left settings.encoding bytes)
+
 -- to the sinks came all of the page that these bytes make, and with it its worst level and its counts
 pub record Whole (came : Laid Edge → Type 0) (settings : PageSettings) (bytes : List ℕ) (after : Option (List ℕ)) (outcome : Outcome) : Type 0 where
   pub gave : came (whole_page settings bytes)
@@ -91,10 +98,9 @@ Runs result streams rows_before rows_after notes_before notes_after settings byt
 -- What a sink failed in, after what the bytes before had settled: the line that these bytes made whole; or, where no byte was left, the page's end.
 abbrev pub BrokeIn : {R N : Type 0} → Streams R N → R → R → N → N → PageSettings → (before own left : List ℕ) → Type 0
 BrokeIn streams rows_before rows_after notes_before notes_after settings before own left =
-    let edge = (settled_page settings before).edge in
     let front : Laid Edge → Type 0 = λ laid. FrontCame streams rows_before rows_after notes_before notes_after laid in
-    ((length (lines_made settings.encoding before own) ≤ 1) × front (settled edge (lines_made settings.encoding before own)))
-    ⊎ ((own ≡ []) × (left ≡ []) × front (page edge (line_left settings.encoding before)))
+    ((length (lines_made settings.encoding before own) ≤ 1) × front (settled_by settings before own))
+    ⊎ ((own ≡ []) × (left ≡ []) × front (page_rest settings before))
 
 -- a sink failed: what the bytes before a line settle came whole, then came a front of that line, and nothing
 -- of the bytes that are left; no more was read than the chunk with the line's last byte, at most 2^14 bytes

@@ -1,5 +1,6 @@
 -- The code's own steps and fast ways. Trust needs no reading of them.
 pub mod Held
+pub mod Layers
 pub mod PageSinks
 pub mod Layers
 pub mod Steps

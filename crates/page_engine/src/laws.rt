@@ -1,6 +1,6 @@
 //! Laws of pages on lists of lines.
 
-ghost use Rattle.std.specs.Prelude.{◌≡◌, ◌≤◌, ◌+◌, ◌*◌, List, ◌++◌, length};
+ghost use Rattle.std.specs.Prelude.{◌≡◌, ◌≤◌, ◌+◌, ◌*◌, ℕ, List, ◌++◌, length};
 ghost use Rattle.page_core_base.specs.Rows.{join};
 ghost use Rattle.page_core_base.specs.declared.page_settings.Settings.{Settings};
 ghost use Rattle.page_roff_lines.specs.Lines.{Line};
@@ -11,6 +11,7 @@ ghost use Rattle.page_engine.specs.machine.PageSinks as by_line;
 ghost use Rattle.page_engine.specs.Edges.{Edge, start};
 ghost use Rattle.page_engine.specs.laws.Views.{IsReached, counts_at};
 ghost use Rattle.page_engine.specs.Page.{settled, edge, page, raw_lines};
+ghost use Rattle.page_engine.specs.Runs.{whole_page, settled_page, settled_by, page_rest};
 ghost use Rattle.page_engine.specs.laws.Within.{IsWithin, text_bytes};
 
 /// The edges that a page comes to: the one of its start, and from each such edge the one that lines leave. Its layers agree in what they share.
@@ -28,6 +29,12 @@ pub fn cut_law()
         → settled e (above ++ below) ≡ join (settled e above) (settled (edge e above) below) }
     ensures page { (e : Edge) (above below : List Line) → IsReached e
         → page e (above ++ below) ≡ join (settled e above) (page (edge e above) below) }
+{}
+
+/// What bytes settle is what those before them settle, and then their own; and a page is what its bytes settle, and then the rest.
+pub fn pieces_law()
+    ensures piece { (s : Settings) (before own : List ℕ) → settled_page s (before ++ own) ≡ join (settled_page s before) (settled_by s before own) }
+    ensures rest { (s : Settings) (bytes : List ℕ) → whole_page s bytes ≡ join (settled_page s bytes) (page_rest s bytes) }
 {}
 
 /// The forest, the block tree and the filling of whole lists give what the layers give line by line and piece by piece.

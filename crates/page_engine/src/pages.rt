@@ -35,7 +35,7 @@ pub enum Phase {
 
 impl Phase {
     // The fault of each call on a page that is not open.
-    fn fault(self) -> Option<Fault>
+    pub(crate) fn fault(self) -> Option<Fault>
         ensures is { result ≡ closed self }
         ensures open { result ≡ None → self ≡ Phase.Open }
     {

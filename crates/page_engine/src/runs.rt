@@ -1,24 +1,27 @@
 //! A run: the bytes of a source become the rows and messages of a page.
 
-ghost use Rattle.std.specs.Prelude.{◌≡◌, ◌<◌, ◌≤◌, ◌^◌, ℕ, List, length, IfOk, IfErr, OnOk, Some, true};
+ghost use Rattle.std.specs.Prelude.{◌≡◌, ◌<◌, ◌≤◌, ◌+◌, ◌^◌, ℕ, List, [], length, OnOk, MatchResult, Some, true};
 ghost use Rattle.std.specs.Io.KnownBytes.{Consumes};
-ghost use Rattle.page_core_base.specs.Settings.{IsGood};
 ghost use Rattle.page_core_streams.specs.Streams.{SourceState};
 ghost use Rattle.page_core_streams.specs.laws.Views.{AreRead, IsFewer, ReadsOn, source_state};
+ghost use Rattle.page_core_base.specs.Settings.{IsGood};
+ghost use Rattle.page_core_base.specs.declared.faults.Fault.{Fault};
 ghost use Rattle.page_core_base.specs.declared.page_settings.Settings.{Settings as PageSettings};
-ghost use Rattle.page_engine.specs.Edges.{Edge};
-ghost use Rattle.page_engine.specs.laws.Reads.{MayRead};
-ghost use Rattle.page_engine.specs.laws.States.{IsOpenAt, CannotStart};
+ghost use Rattle.page_engine.specs.laws.Reads.{HasTaken, Feeds, Closes, MayRead};
+ghost use Rattle.page_engine.specs.laws.States.{CannotStart, closed, IsRefused};
 ghost use Rattle.page_engine.specs.Runs.{writers, Runs, RunsOver};
 ghost use Rattle.page_engine.specs.laws.Views.{RunsIn, sinks};
-ghost use Rattle.page_engine.specs.machine.Steps.{CanTake, TakesPart, TakesChunk, TakesLast, PutsOut, Finishes, StartsAt, ReadsAll};
+ghost use Rattle.page_engine.specs.machine.Steps.{CanTake, TakesPart, TakesChunk, TakesLast, PutsOut, Finishes};
 
-use crate::pages::Page;
+use crate::pages::{Page, Phase};
 use page_core_base::{Fault, Level, NoteSink, RowSink, Settings};
-use page_core_streams::{Chunks, Counted, Input, SliceSource, Source, Target, TextNotes, TextRows};
+use page_core_streams::{
+    BYTES, Chunks, Counted, Input, SliceSource, Source, Target, TextNotes, TextRows,
+};
 use page_roff_lines::Cutter;
 use page_roff_source::Counts;
 use std::alloc::Global;
+use std::marker::Model;
 
 /// How a run ended: the worst level of the messages that were given, and the counts.
 #[derive(Clone, Copy, Debug, PartialEq, Eq)]
@@ -43,7 +46,7 @@ fn put_out<R: RowSink, N: NoteSink>(rows: &mut R, notes: &mut N) -> Result<(), F
     }
 }
 
-/// A page, and the cutter of its bytes.
+// A page, and the cutter of its bytes.
 #[derive(Drop)]
 struct Run {
     page: Page,
@@ -51,18 +54,6 @@ struct Run {
 }
 
 impl Run {
-    /// Before the first byte of a page. Its fault is [`Fault::Settings`], or else [`Fault::Memory`].
-    fn new(alloc: Global, settings: &Settings) -> Result<Run, Fault>
-        ensures ok { IfOk result (λ run. IsGood settings.now × StartsAt run settings.now) }
-        ensures fault { IfErr result (λ fault. CannotStart settings.now fault) }
-    {
-        let page = Page::new(alloc, *settings)?;
-        let Ok(cutter) = Cutter::new(alloc, settings.encoding) else {
-            return Err(Fault::Memory);
-        };
-        Ok(Run { page, cutter })
-    }
-
     // Takes bytes up to the end of a line, or all of a chunk, and gives what a line that is whole settles. It
     // answers how many bytes it took.
     fn take_part<R: RowSink, N: NoteSink>(
@@ -86,18 +77,16 @@ impl Run {
         Ok(count)
     }
 
-    // Takes a chunk of the bytes, gives what its lines settle, and has it put out.
+    // Takes a chunk of the bytes, and gives what its lines settle.
     fn take_chunk<R: RowSink, N: NoteSink>(
         &mut self,
         chunk: &[u8],
         rows: &mut R,
         notes: &mut N,
     ) -> Result<(), Fault>
-        requires room { CanTake self.old (length chunk.now) }
-        requires short { length chunk.now ≤ 2 ^ 14 }
+        requires { CanTake self.old (length chunk.now) }
         ensures takes { TakesChunk result (sinks R.gave R.within R.failed N.gave N.within N.failed)
             self.old self.new rows.old rows.new notes.old notes.new chunk.now }
-        ensures out { OnOk result (R.is_out rows.new × N.is_out notes.new) }
         ensures rows_same { R.loans rows.new ≡ R.loans rows.old }
         ensures notes_same { N.loans notes.new ≡ N.loans notes.old }
     {
@@ -106,7 +95,7 @@ impl Run {
             let count = self.take_part(rest, rows, notes)?;
             rest = &rest[count..];
         }
-        put_out(rows, notes)
+        Ok(())
     }
 
     // Takes the last line, where there is one, and gives what it settles.
@@ -128,28 +117,125 @@ impl Run {
         Ok(())
     }
 
-    // Takes the last line, where there is one, and ends the page.
-    fn end<R: RowSink, N: NoteSink>(&mut self, rows: &mut R, notes: &mut N) -> Result<(), Fault>
-        requires { CanTake self.old 0 }
-        ensures ends { Finishes result (sinks R.gave R.within R.failed N.gave N.within N.failed)
-            self.old self.new rows.old rows.new notes.old notes.new }
-        ensures rows_same { R.loans rows.new ≡ R.loans rows.old }
-        ensures notes_same { N.loans notes.new ≡ N.loans notes.old }
-    {
-        self.take_last(rows, notes)?;
-        self.page.end(rows, notes)
-    }
-
-    // Ends the page, and has it put out.
+    // Takes the last line, where there is one, ends the page, and has it put out.
     fn finish<R: RowSink, N: NoteSink>(&mut self, rows: &mut R, notes: &mut N) -> Result<(), Fault>
         requires { CanTake self.old 0 }
         ensures ends { Finishes result (sinks R.gave R.within R.failed N.gave N.within N.failed)
             self.old self.new rows.old rows.new notes.old notes.new }
+        ensures out { OnOk result (R.is_out rows.new × N.is_out notes.new) }
         ensures rows_same { R.loans rows.new ≡ R.loans rows.old }
         ensures notes_same { N.loans notes.new ≡ N.loans notes.old }
     {
-        self.end(rows, notes)?;
+        self.take_last(rows, notes)?;
+        self.page.end(rows, notes)?;
         put_out(rows, notes)
+    }
+}
+
+/// A page whose bytes come in pieces, in any cut: a pipe, a socket, the output of a build. What a piece settles is in the sinks, and put out, when
+/// [`PageRun::feed`] returns. After any pieces that is `settled_page` of all their bytes, by [`crate::pieces_law`].
+#[derive(Drop)]
+pub struct PageRun {
+    run: Run,
+    bytes_left: u32,
+    phase: Phase,
+}
+
+impl Model for PageRun {
+    ghost use Rattle.page_engine.specs.laws.Reads.{RunState};
+    ghost use Rattle.page_engine.specs.machine.Steps.{HasRoom};
+
+    ghost Value = { RunState };
+
+    ghost view = { λ r. record { phase = r.phase; page = r.run.page; point = r.run.cutter.point } };
+
+    ghost invariant = { λ r. HasRoom r.phase r.run r.bytes_left };
+}
+
+impl PageRun {
+    /// Before the first byte of a page. Its fault is [`Fault::Settings`], or else [`Fault::Memory`].
+    pub fn new(alloc: Global, settings: &Settings) -> Result<PageRun, Fault>
+        ensures starts { MatchResult result (λ run. IsGood settings.now × HasTaken run settings.now [])
+            (λ fault. CannotStart settings.now fault) }
+    {
+        let page = Page::new(alloc, *settings)?;
+        let Ok(cutter) = Cutter::new(alloc, settings.encoding) else {
+            return Err(Fault::Memory);
+        };
+        Ok(PageRun {
+            run: Run { page, cutter },
+            bytes_left: BYTES,
+            phase: Phase::Open,
+        })
+    }
+
+    /// Takes a piece of the bytes, of any length, gives what the lines settle that it makes whole, and has it put out.
+    ///
+    /// Its faults are in this order: [`Fault::Ended`] after a good end, [`Fault::Failed`] after a fault of a sink, [`Fault::TooLong`] for more than
+    /// [`BYTES`] bytes with those before, by which nothing changes; then [`Fault::WriteText`] and [`Fault::WriteNotes`], of the sink that failed.
+    pub fn feed<R: RowSink, N: NoteSink>(
+        &mut self,
+        piece: &[u8],
+        rows: &mut R,
+        notes: &mut N,
+    ) -> Result<(), Fault>
+        ensures feeds { (settings : PageSettings) (bytes : List ℕ) → HasTaken self.old settings bytes
+            → length bytes + length piece.now < 2 ^ 31
+            → Feeds result (sinks R.gave R.within R.failed N.gave N.within N.failed)
+            rows.old rows.new notes.old notes.new settings bytes piece.now self.new }
+        ensures out { OnOk result (R.is_out rows.new × N.is_out notes.new) }
+        ensures too_long { (settings : PageSettings) (bytes : List ℕ) → HasTaken self.old settings bytes
+            → 2 ^ 31 ≤ length bytes + length piece.now
+            → IsRefused result Fault.TooLong self.old self.new rows.old rows.new notes.old notes.new }
+        ensures refused { (fault : Fault) → closed self.old.phase ≡ Some fault →
+            IsRefused result fault self.old self.new rows.old rows.new notes.old notes.new }
+        ensures rows_same { R.loans rows.new ≡ R.loans rows.old }
+        ensures notes_same { N.loans notes.new ≡ N.loans notes.old }
+    {
+        if let Some(fault) = self.phase.fault() {
+            return Err(fault);
+        }
+        if piece.len() > self.bytes_left as usize {
+            return Err(Fault::TooLong);
+        }
+        self.phase = Phase::Failed;
+        self.run.take_chunk(piece, rows, notes)?;
+        put_out(rows, notes)?;
+        self.bytes_left -= piece.len() as u32;
+        self.phase = Phase::Open;
+        Ok(())
+    }
+
+    /// Ends the page: gives the rest, and has it put out. Its faults are in this order: [`Fault::Ended`] after a good end, [`Fault::Failed`] after a
+    /// fault of a sink; then [`Fault::WriteText`] and [`Fault::WriteNotes`], of the sink that failed.
+    pub fn end<R: RowSink, N: NoteSink>(&mut self, rows: &mut R, notes: &mut N) -> Result<(), Fault>
+        ensures ends { (settings : PageSettings) (bytes : List ℕ) → HasTaken self.old settings bytes
+            → Closes result (sinks R.gave R.within R.failed N.gave N.within N.failed)
+            rows.old rows.new notes.old notes.new settings bytes self.new }
+        ensures out { OnOk result (R.is_out rows.new × N.is_out notes.new) }
+        ensures refused { (fault : Fault) → closed self.old.phase ≡ Some fault →
+            IsRefused result fault self.old self.new rows.old rows.new notes.old notes.new }
+        ensures rows_same { R.loans rows.new ≡ R.loans rows.old }
+        ensures notes_same { N.loans notes.new ≡ N.loans notes.old }
+    {
+        if let Some(fault) = self.phase.fault() {
+            return Err(fault);
+        }
+        self.phase = Phase::Failed;
+        self.run.finish(rows, notes)?;
+        self.phase = Phase::Ended;
+        Ok(())
+    }
+
+    /// What the page came to so far.
+    pub fn outcome(&self) -> Outcome
+        ensures worst { result.worst ≡ self.now.page.worst }
+        ensures counts { result.counts ≡ self.now.page.counts }
+    {
+        Outcome {
+            worst: self.run.page.worst(),
+            counts: self.run.page.counts(),
+        }
     }
 
     // Reads the next chunk of a source, and answers whether there was one. Nothing else reads: since nobody knows how long a read waits, all that the
@@ -174,39 +260,28 @@ impl Run {
     }
 
     // Reads all there is, in chunks of any size, and gives the rows and messages of the page. It is a call of its own, so that it reuses the
-    // stack pages that `Run::new` touched.
+    // stack pages that `PageRun::new` touched.
     #[inline(never)]
     fn read_all<S: Source, R: RowSink, N: NoteSink>(
         &mut self,
         source: &mut S,
         rows: &mut R,
         notes: &mut N,
-    ) -> Result<(), Fault>
-        requires { (settings : PageSettings) × StartsAt self.old settings }
-        ensures reads { (e : Edge) → IsOpenAt self.old.page e → (bytes : List ℕ)
-            × ReadsAll result (sinks R.gave R.within R.failed N.gave N.within N.failed) self.new
-            (S.state source.old) (S.state source.new) rows.old rows.new notes.old notes.new
-            e self.old.cutter.point bytes }
+    ) -> Result<Outcome, Fault>
+        requires { (settings : PageSettings) × HasTaken self.old settings [] }
+        ensures runs { (settings : PageSettings) → IsGood settings → HasTaken self.old settings [] → (bytes : List ℕ)
+            × RunsOver result (sinks R.gave R.within R.failed N.gave N.within N.failed)
+            (S.state source.old) (S.state source.new) rows.old rows.new notes.old notes.new settings bytes }
         ensures source_same { S.loans source.new ≡ S.loans source.old }
         ensures rows_same { R.loans rows.new ≡ R.loans rows.old }
         ensures notes_same { N.loans notes.new ≡ N.loans notes.old }
     {
         let mut chunks = Chunks::new();
         while self.next(&mut chunks, source, rows, notes)? {
-            self.take_chunk(chunks.chunk(), rows, notes)?;
+            self.feed(chunks.chunk(), rows, notes)?;
         }
-        self.finish(rows, notes)
-    }
-
-    // What the page came to.
-    fn into_outcome(self) -> Outcome
-        ensures worst { result.worst ≡ self.page.worst }
-        ensures counts { result.counts ≡ self.page.counts }
-    {
-        Outcome {
-            worst: self.page.worst(),
-            counts: self.page.counts(),
-        }
+        self.end(rows, notes)?;
+        Ok(self.outcome())
     }
 }
 
@@ -233,13 +308,8 @@ pub fn run_sinks<S: Source, R: RowSink, N: NoteSink>(
     ensures rows_same { R.loans rows.new ≡ R.loans rows.old }
     ensures notes_same { N.loans notes.new ≡ N.loans notes.old }
 {
-    let mut run = Run::new(alloc, settings)?;
-    let read = run.read_all(source, rows, notes);
-    let outcome = run.into_outcome();
-    match read {
-        Ok(()) => Ok(outcome),
-        Err(fault) => Err(fault),
-    }
+    let mut run = PageRun::new(alloc, settings)?;
+    run.read_all(source, rows, notes)
 }
 
 /// Formats a page as [`run_sinks`] does: reads a reader, and writes the rows to one writer and the messages,

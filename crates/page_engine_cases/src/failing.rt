@@ -1,10 +1,12 @@
-//! A page at once, and with each of its writes failing in turn.
+//! A page at once, in pieces, and with each of its writes failing in turn.
+
+ghost use Rattle.std.specs.Prelude.{◌<◌};
 
 use crate::pages::run_lines;
 use crate::streams::{Shows, Streams};
 use page_checks::{Cuts, Ending, FILE};
-use page_core::{Fault, Settings};
-use page_engine::{Outcome, run_page};
+use page_core::{Fault, Settings, TextNotes, TextRows};
+use page_engine::{Outcome, PageRun, run_page};
 use page_test_streams::{Fails, Store};
 use std::alloc::Global;
 
@@ -31,6 +33,27 @@ fn run_whole(
     run_page(alloc, &mut reader, rows, messages, FILE, settings)
 }
 
+// Runs a page whose bytes come in pieces of a size. What a piece settles is in the sinks when it is fed.
+fn run_in_pieces(
+    alloc: Global,
+    bytes: &[u8],
+    size: usize,
+    rows: &mut Store,
+    messages: &mut Store,
+    settings: &Settings,
+) -> Result<Outcome, Fault>
+    requires { 0 < size }
+{
+    let mut rows = TextRows::new(rows);
+    let mut notes = TextNotes::new(messages, FILE);
+    let mut run = PageRun::new(alloc, settings)?;
+    for piece in bytes.chunks(size) {
+        run.feed(piece, &mut rows, &mut notes)?;
+    }
+    run.end(&mut rows, &mut notes)?;
+    Ok(run.outcome())
+}
+
 impl Whole {
     /// A run over a page.
     pub(crate) fn new(alloc: Global, bytes: &[u8], settings: &Settings) -> Whole {
@@ -49,6 +72,22 @@ impl Whole {
         other == self.result
             && streams.rows.kept == self.rows.kept
             && streams.messages.kept == self.messages.kept
+    }
+
+    /// Whether a run whose bytes come in pieces of a size gives the same.
+    pub(crate) fn is_in_pieces(
+        &self,
+        alloc: Global,
+        bytes: &[u8],
+        size: usize,
+        settings: &Settings,
+    ) -> bool
+        requires { 0 < size }
+    {
+        let mut rows = Store::new(alloc, usize::MAX, Fails::Never);
+        let mut messages = Store::new(alloc, usize::MAX, Fails::Never);
+        let result = run_in_pieces(alloc, bytes, size, &mut rows, &mut messages, settings);
+        result == self.result && rows.kept == self.rows.kept && messages.kept == self.messages.kept
     }
 
     // Whether streams got a front of the same.

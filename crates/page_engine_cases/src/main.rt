@@ -1,8 +1,8 @@
 //! Shows what pages give whose lines come one by one: rows, messages, counts of lines and the worst level, and the fault of each further call.
 //! The standard input has the pages, each after a line `== WORDS: what it shows`, where the words are those of `words` or none.
 //!
-//! Each page is also run at once, with each write failing in turn, by roff alone, which counts the same, and, page and roff, so that they go on after
-//! each line from what is held of them, and once more from what is held then. Where it gives something else, a line `-- not` says so. Where an
+//! Each page is also run at once, in pieces of its bytes, with each write failing in turn, by roff alone, which counts the same, and, page and roff, so
+//! that they go on after each line from what is held of them, and once more from what is held then. Where it gives something else, a line `-- not` says so. Where an
 //! allocation is refused, either there is no page, or it is the one after the page; and the same of roff. A page with a cut, by its words, is run so
 //! alone: where memory lacks for that, it is reported. Each other page is also run with no memory at all but where it is made and where it is put down,
 //! after a line in its middle, and goes on: there with a step more each time, always from what was handed back. One that is scarce, by its words, is
@@ -232,11 +232,16 @@ fn show_cuts(rt: &HostRuntime, page: &[u8], words: &Words, streams: &Streams, en
     }
 }
 
-// Shows where the page gives something else at once, or is not a write that fails.
+// Shows where the page gives something else at once, in pieces of a byte or of seven, or is not a write that fails.
 fn show_whole(rt: &HostRuntime, page: &[u8], words: &Words, streams: &Streams, ending: Ending) {
     let whole = Whole::new(rt.alloc(), page, &words.settings);
     if !whole.is(streams, ending.result) {
         show_way(rt, "at once");
+    }
+    for size in [1, 7] {
+        if !whole.is_in_pieces(rt.alloc(), page, size, &words.settings) {
+            show_way(rt, "in pieces");
+        }
     }
     if !whole.stands_failures(rt.alloc(), page, &words.settings) {
         show_way(rt, "where a write fails");

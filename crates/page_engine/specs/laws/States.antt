@@ -64,7 +64,7 @@ abbrev pub line_fault : PageState → Option Fault
 line_fault p = line_fault_of p.phase p.counts.source
 
 -- a call answers a fault, and nothing changes
-pub record IsRefused {R N : Type 0} (res : Result (Unit {0}) Fault) (fault : Fault) (p p' : PageState)
+pub record IsRefused {P R N : Type 0} (res : Result (Unit {0}) Fault) (fault : Fault) (p p' : P)
     (r r' : R) (n n' : N) : Type 0 where
   pub answer : res ≡ Err fault
   pub page : p' ≡ p

@@ -2,9 +2,8 @@ use Rattle.std.proofs.Common.{◌≤◌, refl, [], ◌++◌, ◌∙◌, ap, take
 use Rattle.std.proofs.lemmas.Bool.Decides.{nat_tests}
 use Rattle.std.proofs.lemmas.List.{take_rest}
 use Rattle.std.proofs.lemmas.Result.{err_from_is_err_and}
-use Rattle.page_engine.specs.machine.Steps.{settled_from}
 use Rattle.page_engine.specs.laws.Views.{sinks}
-use Rattle.page_engine.proofs.Through.{through_none, through_more, room_after, all_done, part_of, chunk_out}
+use Rattle.page_engine.proofs.Through.{through_none, through_more, room_after, all_done, part_of, part_broke}
 use Rattle.page_engine.proofs.runs.Run.take_chunk.Goals as goal
 
 pub loop-rest-init : goal.loop-rest-init
@@ -12,13 +11,13 @@ loop-rest-init g c =
     let r = g.R.RowSink in
     let n = g.N.NoteSink in
     let k = sinks r.gave r.within r.failed n.gave n.within n.failed in
-    ([], refl, through_none k g.met.R.RowSink.laws g.met.N.NoteSink.laws _ _ _ c.requires.room.free, refl, refl)
+    ([], refl, through_none k g.met.R.RowSink.laws g.met.N.NoteSink.laws _ _ _ c.requires.free, refl, refl)
 
 pub take_part-requires : goal.take_part-requires
 take_part-requires g c =
     let i = c.loop-rest.invariant in record {
       some = grind (arith, nat_tests);
-      room = room_after i.0 (length c.args.chunk.now) (length c.loop-rest.rest.now) i.2.moved c.requires.room
+      room = room_after i.0 (length c.args.chunk.now) (length c.loop-rest.rest.now) i.2 c.requires
           (omega (arith, ap length i.1, length-append i.0 c.loop-rest.rest.now));
     }
 
@@ -26,15 +25,12 @@ pub returns-in_err-count-clause-takes : goal.returns-in_err-count-clause-takes
 returns-in_err-count-clause-takes g c =
     let i = c.loop-rest.invariant in
     let p = err_from_is_err_and c.from_residual.result c.from_residual.ensures.1 in
-    rw (p.1, p.2) (λ e h. record {
-      before = i.0;
-      after = c.loop-rest.rest.now;
-      parts = i.1;
-      rows = c.loop-rest.rows;
-      notes = c.loop-rest.notes;
-      whole = (i.2.settled e h).came;
-      broke = rw i.2.moved.point at (c.in_err-count.ensures.takes (settled_from e c.args.self.now.cutter.point i.0).edge (i.2.settled e h).at);
-    })
+    let r = g.R.RowSink in
+    let n = g.N.NoteSink in
+    let k = sinks r.gave r.within r.failed n.gave n.within n.failed in
+    rw (p.1, p.2) (λ s before h.
+    let f = i.2.fed s before h in
+    part_broke k s before c.args.chunk.now i.0 c.loop-rest.rest.now _ i.1 f.came (c.in_err-count.ensures.takes s (before ++ i.0) f.taken))
 
 pub loop-rest-preserved : goal.loop-rest-preserved
 loop-rest-preserved g c =
@@ -57,10 +53,4 @@ pub returns-clause-takes : goal.returns-clause-takes
 returns-clause-takes g c =
     let i = c.loop-rest.invariant in
     let none : length c.loop-rest.rest.now ≤ 0 = grind (arith, nat_tests) in
-    let r = g.R.RowSink in
-    let n = g.N.NoteSink in
-    rw (all_done c.args.chunk.now i.0 c.loop-rest.rest.now i.1 none)
-    (chunk_out (sinks r.gave r.within r.failed n.gave n.within n.failed) g.met.R.RowSink.laws g.met.N.NoteSink.laws _ _ i.0 c.put_out.result i.2 c.put_out.ensures.puts)
-
-pub returns-in_err-count-clause-out : goal.returns-in_err-count-clause-out
-returns-in_err-count-clause-out g c = rw (err_from_is_err_and c.from_residual.result c.from_residual.ensures.1).1 tt
+    rw (all_done c.args.chunk.now i.0 c.loop-rest.rest.now i.1 none) i.2
