@@ -37,7 +37,7 @@ def blocks(lines, margin):
     """The blocks of lines that begin at a margin: what closes one belongs to it, and so do the attributes before it."""
     block, is_attribute = [], False
     for line in lines:
-        begins = line.startswith(margin) and line[len(margin)] not in " })]{"
+        begins = line.startswith(margin) and line[len(margin)] not in " >})]{"
         if begins and block and not is_attribute:
             yield block
             block = []

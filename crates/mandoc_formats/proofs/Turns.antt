@@ -12,7 +12,7 @@ use Rattle.page_core_base.specs.declared.page_settings.Settings.{Settings as Pag
 use Rattle.page_core_base.specs.declared.page_settings.Output.{Output}
 use Rattle.page_core_base.specs.declared.page_settings.Output.TheVariants as output
 use Rattle.mandoc_formats.specs.declared.faults.Done.{Done}
-use Rattle.mandoc_formats.specs.Formats.{File, Page, Formatted, IsFile, FormatsAll, Tells, page_out, page_err, Did, IsPutOut, HasFailed, fault_text, line_about, line_end}
+use Rattle.mandoc_formats.specs.Formats.{Causes, File, Page, Formatted, IsFile, FormatsAll, Tells, page_out, page_err, Did, IsPutOut, HasFailed, fault_text, line_about, line_end}
 use Rattle.std.specs.Io.KnownBytes.{Keeps}
 use Rattle.page_core_base.specs.declared.faults.Fault.TheVariants as fault
 
@@ -95,16 +95,16 @@ pub some_names : {X : Type 0} (f : X → List ℕ) (xs : List X) (names : List (
 some_names f [] names e t = grind arith
 some_names f (x ∷ xs) names e t = subst (λ (l : List (List ℕ)). 0 < length l) e (omega arith)
 
-pub formats_none : (finds : List ℕ → Option (Option (List ℕ)) → Type 0) (failed : Type 0) (settings : PageSettings) (names : List (List ℕ)) (input : Option (List ℕ)) (file : File)
-    → names ≡ [] → Formatted failed settings (codes "<stdin>") input file → FormatsAll finds failed settings names input file
+pub formats_none : (finds : List ℕ → Option (Option (List ℕ)) → Type 0) (failed : Type 0) (own why : Causes) (settings : PageSettings) (names : List (List ℕ)) (input : Option (List ℕ)) (file : File)
+    → names ≡ [] → Formatted failed own settings (codes "<stdin>") input file → FormatsAll finds failed own why settings names input file
 unfolding FormatsAll
-formats_none finds failed settings names input file e h = subst (λ (l : List (List ℕ)). FormatsAll finds failed settings l input file) (sym e) h
+formats_none finds failed own why settings names input file e h = subst (λ (l : List (List ℕ)). FormatsAll finds failed own why settings l input file) (sym e) h
 
-pub formats_some : (finds : List ℕ → Option (Option (List ℕ)) → Type 0) (failed : Type 0) (settings : PageSettings) (names : List (List ℕ)) (input : Option (List ℕ)) (file : File)
-    → 0 < length names → InTurn join does_stop (IsFile finds failed settings) names (start (left 0)) file → FormatsAll finds failed settings names input file
+pub formats_some : (finds : List ℕ → Option (Option (List ℕ)) → Type 0) (failed : Type 0) (own why : Causes) (settings : PageSettings) (names : List (List ℕ)) (input : Option (List ℕ)) (file : File)
+    → 0 < length names → InTurn join does_stop (IsFile finds failed why settings) names (start (left 0)) file → FormatsAll finds failed own why settings names input file
 unfolding FormatsAll
-formats_some finds failed settings [] input file l h = absurd (omega (arith, l))
-formats_some finds failed settings (name ∷ names) input file l h = h
+formats_some finds failed own why settings [] input file l h = absurd (omega (arith, l))
+formats_some finds failed own why settings (name ∷ names) input file l h = h
 
 pub worse : (a b : ℕ) → ord_max nat_cmp a b ≡ max a b
 worse a b = grind arith

@@ -1,5 +1,5 @@
 -- What the pages of a command come to. Source: mandoc(1), DESCRIPTION, DIAGNOSTICS, EXIT STATUS.
-use Rattle.std.specs.Prelude.{◌≡◌, ℕ, ◌<◌, Bool, true, false, List, [], ◌∷◌, ◌++◌, codes, decimal, encode_utf8, Option, Some, None, Result, Err, IsOk, MatchResult, ◌⊎◌, if◌then◌else◌}
+use Rattle.std.specs.Prelude.{◌≡◌, ℕ, ◌<◌, Bool, true, false, ⊤, List, [], ◌∷◌, ◌++◌, codes, decimal, encode_utf8, Option, Some, None, Result, Err, IsOk, MatchResult, ◌⊎◌, if◌then◌else◌}
 use Rattle.std.specs.Str.{chars}
 use Rattle.std.specs.List.{flat_map}
 use Rattle.std.specs.Io.KnownBytes.{Consumes}
@@ -9,7 +9,7 @@ use Rattle.page_core_base.specs.declared.page_settings.SettingFault.TheVariants 
 use Rattle.page_core_base.specs.declared.page_settings.Settings.{Settings as PageSettings}
 use Rattle.page_core_base.specs.declared.page_settings.Output.{Output}
 use Rattle.page_core_base.specs.declared.page_settings.Output.TheVariants as output
-use Rattle.page_core_streams.specs.Streams.{Grows, RisesIf}
+use Rattle.page_core_streams.specs.Streams.{Grows, RisesIf, SourceState, HasGiven, IsTooLong}
 use Rattle.page_engine.specs.declared.runs.Outcome.{Outcome}
 use Rattle.page_engine.specs.Runs.{writers, Runs}
 use Rattle.mandoc_command.specs.Status.{status}
@@ -56,6 +56,37 @@ pub record HasFailed {S : Type 0} (counts : Bool) (failures : S → ℕ) : Type 
   pub before : S
   pub after : S
   pub rose : RisesIf counts (failures before) (failures after)
+
+-- what is read from gave too many bytes, or was called too often, between two moments
+pub record GaveTooMuch {S : Type 0} (state : S → SourceState) : Type 0 where
+  pub before : S
+  pub after : S
+  pub asked : ℕ
+  pub bytes : List ℕ
+  pub given : HasGiven (state before) (state after) asked bytes
+  pub is : IsTooLong asked bytes
+
+-- what came before each fault
+pub record Causes : Type 1 where
+  pub unread : Type 0
+  pub too_long : Type 0
+  pub unwritten : Type 0
+
+-- where all that is read and written counts: what is read from failed or gave too much, and what rows or messages go to failed
+abbrev pub causes : {I W V : Type 0} → (i w v : Bool) → (I → SourceState) → (W → ℕ) → (V → ℕ) → Causes
+causes i w v state rows notes = let all : Type 0 = (i ≡ true) × (w ≡ true) × (v ≡ true) in record {
+  unread = all → HasFailed true (λ s. (state s).failed);
+  too_long = all → GaveTooMuch state;
+  unwritten = all → HasFailed true rows ⊎ HasFailed true notes;
+}
+
+-- a fault has its cause; of memory that is refused nothing is said
+abbrev pub HasCause : {T : Type 0} → Causes → Result T Fault → Type 0
+HasCause why (Err fault.Read) = why.unread
+HasCause why (Err fault.TooLong) = why.too_long
+HasCause why (Err fault.WriteText) = why.unwritten
+HasCause why (Err fault.WriteNotes) = why.unwritten
+HasCause why _ = ⊤
 
 -- a front of all
 abbrev pub Front : List ℕ → List ℕ → Type 0
@@ -105,12 +136,13 @@ abbrev pub File : Type 0
 File = Came Done
 
 -- a page was formatted under a name, and its fault reported
-pub record Formatted (failed : Type 0) (settings : PageSettings) (name : List ℕ) (before : Option (List ℕ)) (file : File) : Type 0 where
+pub record Formatted (failed : Type 0) (why : Causes) (settings : PageSettings) (name : List ℕ) (before : Option (List ℕ)) (file : File) : Type 0 where
   pub page : Page
   pub is : IsPage settings name page
   pub read : Consumes before page.left page.bytes
   pub result : Result Outcome Fault
   pub ended : IsReported page.end result
+  pub cause : HasCause why result
   pub out : file.out ≡ page_out settings.output page
   pub told : MatchResult result
       (λ outcome. (file.err ≡ page_err settings.output page) × (file.end.status ≡ status outcome.worst) × (file.end.stops ≡ false))
@@ -139,17 +171,17 @@ pub record Unnamed (failed : Type 0) (name : List ℕ) (file : File) : Type 0 wh
 abbrev pub IsFound : (finds : List ℕ → Option (Option (List ℕ)) → Type 0) → (failed : Type 0) → (is : Option (List ℕ) → File → Type 0) → (name shown : List ℕ) → File → Type 0
 IsFound finds failed is name shown file = (finds name None × Unopened failed shown file) ⊎ ((bytes : Option (List ℕ)) × finds name (Some bytes) × is bytes file)
 
-abbrev pub IsFile : (finds : List ℕ → Option (Option (List ℕ)) → Type 0) → (failed : Type 0) → PageSettings → (name : List ℕ) → File → Type 0
-IsFile finds failed settings name file =
-    Unnamed failed (shown name) file ⊎ IsFound finds failed (Formatted failed settings (shown name)) name (shown name) file
+abbrev pub IsFile : (finds : List ℕ → Option (Option (List ℕ)) → Type 0) → (failed : Type 0) → Causes → PageSettings → (name : List ℕ) → File → Type 0
+IsFile finds failed why settings name file =
+    Unnamed failed (shown name) file ⊎ IsFound finds failed (Formatted failed why settings (shown name)) name (shown name) file
 
 -- ---- the files of a command
 
--- of each in turn; no files: the standard input is formatted
-unfoldable pub FormatsAll : (finds : List ℕ → Option (Option (List ℕ)) → Type 0) → (failed : Type 0) → PageSettings → (names : List (List ℕ)) → (input : Option (List ℕ)) → File → Type 0
-FormatsAll finds failed settings [] input file = Formatted failed settings (codes "<stdin>") input file
-FormatsAll finds failed settings (name ∷ names) input file =
-    InTurn worse does_stop (IsFile finds failed settings) (name ∷ names) (record { out = []; err = []; end = record { status = 0; stops = false } }) file
+-- of each in turn, with its causes; no files: the standard input is formatted, with its own
+unfoldable pub FormatsAll : (finds : List ℕ → Option (Option (List ℕ)) → Type 0) → (failed : Type 0) → (own why : Causes) → PageSettings → (names : List (List ℕ)) → (input : Option (List ℕ)) → File → Type 0
+FormatsAll finds failed own why settings [] input file = Formatted failed own settings (codes "<stdin>") input file
+FormatsAll finds failed own why settings (name ∷ names) input file =
+    InTurn worse does_stop (IsFile finds failed why settings) (name ∷ names) (record { out = []; err = []; end = record { status = 0; stops = false } }) file
 
 -- a status below that of a failure: nothing waits to be put out
 abbrev pub IsPutOut : ℕ → (out_waits err_waits : List ℕ) → Type 0

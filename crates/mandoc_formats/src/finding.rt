@@ -1,11 +1,11 @@
 //! Where pages are found.
 
+use page_core_streams::Input;
 use std::fs::{self, Files};
-use std::io::Read;
 
 /// What opens files by their names.
 pub trait Finds {
-    type File: Read + Drop;
+    type File: Input + Drop;
 
     ghost use Rattle.std.specs.Prelude.{ℕ, List, Option, option_map};
 
@@ -14,7 +14,7 @@ pub trait Finds {
 
     /// Opens the file that has a name.
     fn find(&self, name: &str) -> Option<Self::File>
-        ensures { finds self.now name.now (option_map Self.File.remaining result) };
+        ensures { finds self.now name.now (option_map (λ file. (Self.File.state file).remaining) result) };
 }
 
 impl<R: Files> Finds for R {

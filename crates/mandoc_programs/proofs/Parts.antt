@@ -1,6 +1,6 @@
 -- What came of pages.
 use Rattle.std.proofs.Common.{◌≡◌, ℕ, Bool, true, false, List, [], ◌∷◌, inl, inr, ◌++◌, Option, Some, None, Result, Ok, Err, refl, sym, ap, ◌∙◌, subst, length, take, drop, ◌<◌, ◌≤◌, append-nil, append_assoc, arith, map, ◌+◌, ◌-◌, zero, suc}
-use Rattle.std.specs.Prelude.{IsOk, IsSorted, MatchResult, ◌⊎◌, ◌&&◌, ◌||◌, ◌==◌, codes, decimal, nat_eq}
+use Rattle.std.specs.Prelude.{⊤, IsOk, IsSorted, MatchResult, ◌⊎◌, ◌&&◌, ◌||◌, ◌==◌, codes, decimal, nat_eq}
 use Rattle.std.specs.Int.{is_in_range}
 use Rattle.std.specs.Ordering.{is_lt}
 use Rattle.std.specs.declared.cmp.Ordering.{Ordering}
@@ -29,12 +29,16 @@ use Rattle.mandoc_programs.specs.declared.pages.Form.{Form}
 use Rattle.mandoc_programs.specs.declared.pages.Form.TheVariants as form
 use Rattle.mandoc_programs.specs.Compressed.{begins_blocks, is_compressed, is_gzip, is_xz, is_bzip2, is_zstd}
 use Rattle.mandoc_formats.specs.Formats.{Tells, line_about, line_end, shown}
-use Rattle.mandoc_programs.specs.Indexes.{Ends, Index, IsAnswered, IsCompressed, IsPlain, OfUnlisted, Part, PutsIn, ReadsPage, Said, after, compressed_line, compressed_text, first_line, puts, unlisted_text}
+use Rattle.mandoc_programs.specs.Indexes.{Ends, Index, IsAnswered, IsCompressed, IsPlain, OfUnlisted, lost, Part, PutsIn, ReadsPage, Said, after, compressed_line, compressed_text, first_line, puts, unlisted_text}
 use Rattle.mandoc_formats.specs.Turns.{Does}
 use Rattle.mandoc_programs.specs.Commands.{FrontCame}
 use Rattle.std.specs.Str.{chars}
 use Rattle.std.specs.Str.Lossy.{utf8_valid_len, utf8_invalid_len}
 use Rattle.mandoc_programs.specs.Searches.{shown_parts}
+
+pub lost_so : (form : Form) (P : Type 0) → P → lost form P
+lost_so form.Printed P p = p
+lost_so form.Index P p = tt
 
 pub said : (failed : Type 0) (line : List ℕ) (end result : Result Tally Fault) (a c d : Option (List ℕ)) → Tells failed c d line → result ≡ end
     → Does (Said failed line end) result a a c d
@@ -137,10 +141,10 @@ said_or false P Q f h = inr (h refl)
 -- ---- the index of a directory
 
 -- an index that is whole takes its name, or can't
-pub answered_on : (end : Result Tally Fault) (tally : Tally) (result : Result Tally Fault) → IsAnswered end (Ok tally) → (result ≡ Ok tally) ⊎ (result ≡ Err WriteText)
-    → IsAnswered end result
+pub answered_on : (end : Result Tally Fault) (tally : Tally) (result : Result Tally Fault) → IsAnswered ⊤ end (Ok tally) → (result ≡ Ok tally) ⊎ (result ≡ Err WriteText)
+    → IsAnswered ⊤ end result
 answered_on end tally result (inl e) (inl r) = inl (e ∙ sym r)
-answered_on end tally result (inl e) (inr r) = inr (subst (λ (x : Result Tally Fault). IsOk x) (sym e) refl, r)
+answered_on end tally result (inl e) (inr r) = inr (subst (λ (x : Result Tally Fault). IsOk x) (sym e) refl, r, tt)
 answered_on end tally result (inr x) r = absurd (let e = x.1 in cc)
 
 pub whole_index : (a b : Option (List ℕ)) (rest more : List ℕ) → a ≡ Some [] → rest ≡ [] → Grows (append_known a []) (append_known b rest) more → b ≡ Some more

@@ -117,26 +117,31 @@ abbrev pub entry_by : Form → List ℕ → PageRecord → List ℕ
 entry_by form.Index file page = entry_line (entry_with page file)
 entry_by form.Printed file page = printed_record page
 
--- an entry came; or a front of it, where it can't be written
-pub record Gives (entry : List ℕ) (part : Part) : Type 0 where
+-- why entries are not printed; why an index is not written is not said
+abbrev pub lost : Form → (unwritten : Type 0) → Type 0
+lost form.Printed unwritten = unwritten
+lost form.Index unwritten = ⊤
+
+-- an entry came; or a front of it, where what it is written to has failed
+pub record Gives (unwritten : Type 0) (entry : List ℕ) (part : Part) : Type 0 where
   pub err : part.err ≡ []
-  pub out : ((part.out ≡ entry) × (part.end ≡ with 0)) ⊎ (Front part.out entry × (part.end ≡ Err fault.WriteText))
+  pub out : ((part.out ≡ entry) × (part.end ≡ with 0)) ⊎ (Front part.out entry × (part.end ≡ Err fault.WriteText) × unwritten)
 
 -- what came of what was found in a page; what can't be read is reported by its path
-abbrev pub OfFound : (failed : Type 0) → Form → (path file : List ℕ) → Result Found Fault → Part → Type 0
-OfFound failed form path file (Ok found.Compressed) = Ends (Ok (record { status = 0; compressed = 1 }))
-OfFound failed form path file (Ok found.Nothing) = Ends (with 0)
-OfFound failed form path file (Ok (found.Record page)) = Gives (entry_by form file page)
-OfFound failed form path file (Err why) = Said failed (fault_line (shown path) why) (after form (bearing_of_page why))
+abbrev pub OfFound : (failed unwritten : Type 0) → Form → (path file : List ℕ) → Result Found Fault → Part → Type 0
+OfFound failed unwritten form path file (Ok found.Compressed) = Ends (Ok (record { status = 0; compressed = 1 }))
+OfFound failed unwritten form path file (Ok found.Nothing) = Ends (with 0)
+OfFound failed unwritten form path file (Ok (found.Record page)) = Gives unwritten (entry_by form file page)
+OfFound failed unwritten form path file (Err why) = Said failed (fault_line (shown path) why) (after form (bearing_of_page why))
 
-abbrev pub OfPage : (failed : Type 0) → Form → (path file : List ℕ) → Option (List ℕ) → Part → Type 0
-OfPage failed form path file before part = (found : Result Found Fault) × IsFoundIn before found × OfFound failed form path file found part
+abbrev pub OfPage : (failed unwritten : Type 0) → Form → (path file : List ℕ) → Option (List ℕ) → Part → Type 0
+OfPage failed unwritten form path file before part = (found : Result Found Fault) × IsFoundIn before found × OfFound failed unwritten form path file found part
 
 -- of a file that can't be opened, of what is no file, and of a page
-abbrev pub OfOpened : (failed : Type 0) → Form → (path file : List ℕ) → Result (Option (Option (List ℕ))) (Option ℤ) → Part → Type 0
-OfOpened failed form path file (Err number) part = Said failed (unopened_line (shown path)) (after form (bearing_of_file number)) part
-OfOpened failed form path file (Ok None) part = Ends (with 0) part
-OfOpened failed form path file (Ok (Some before)) part = OfPage failed form path file before part
+abbrev pub OfOpened : (failed unwritten : Type 0) → Form → (path file : List ℕ) → Result (Option (Option (List ℕ))) (Option ℤ) → Part → Type 0
+OfOpened failed unwritten form path file (Err number) part = Said failed (unopened_line (shown path)) (after form (bearing_of_file number)) part
+OfOpened failed unwritten form path file (Ok None) part = Ends (with 0) part
+OfOpened failed unwritten form path file (Ok (Some before)) part = OfPage failed unwritten form path file before part
 
 -- ---- a directory
 
@@ -149,10 +154,10 @@ abbrev pub OfUnlisted : (failed : Type 0) → Form → (path : List ℕ) → Err
 OfUnlisted failed form path why NoFault = Ends (with 0)
 OfUnlisted failed form path why bearing = Said failed (line_about (shown path) (unlisted_text why)) (after form bearing)
 
-module _ (sees : List ℕ → Sight → Type 0) (failed : Type 0) (form : Form) (dir : List ℕ) where
+module _ (sees : List ℕ → Sight → Type 0) (failed unwritten : Type 0) (form : Form) (dir : List ℕ) where
   -- of a file that is opened
   abbrev pub IsOpened : (file path : List ℕ) → Part → Type 0
-  IsOpened file path part = (found : _) × sees path (opened found) × OfOpened failed form path file found part
+  IsOpened file path part = (found : _) × sees path (opened found) × OfOpened failed unwritten form path file found part
 
   -- of a file below it; one whose name can't be in an index is passed over
   abbrev pub IsNamed : (file : List ℕ) → Part → Type 0
@@ -190,9 +195,9 @@ compressed_in name (Ok tally) = compressed_line name tally.compressed
 compressed_in name (Err why) = []
 
 -- of all folders, and of the pages that are compressed
-pub record IsAll (sees : List ℕ → Sight → Type 0) (failed : Type 0) (form : Form) (dir : List ℕ) (part : Part) : Type 0 where
+pub record IsAll (sees : List ℕ → Sight → Type 0) (failed unwritten : Type 0) (form : Form) (dir : List ℕ) (part : Part) : Type 0 where
   pub pages : Part
-  pub are : PartsOf (IsFolder sees failed form dir) folders pages
+  pub are : PartsOf (IsFolder sees failed unwritten form dir) folders pages
   pub line : List ℕ
   pub is_line : Told failed line (compressed_in (shown dir) pages.end)
   pub out : part.out ≡ pages.out
@@ -200,8 +205,8 @@ pub record IsAll (sees : List ℕ → Sight → Type 0) (failed : Type 0) (form 
   pub end : part.end ≡ pages.end
 
 -- how the records of a directory ended, or that they could not be put out
-abbrev pub IsAnswered : Result Tally Fault → Result Tally Fault → Type 0
-IsAnswered end result = (end ≡ result) ⊎ (IsOk end × (result ≡ Err fault.WriteText))
+abbrev pub IsAnswered : (unwritten : Type 0) → Result Tally Fault → Result Tally Fault → Type 0
+IsAnswered unwritten end result = (end ≡ result) ⊎ (IsOk end × (result ≡ Err fault.WriteText) × unwritten)
 
 -- ---- directories
 
@@ -224,9 +229,9 @@ PutsIn true before after begun contents =
 PutsIn false before after begun contents = Grows before after []
 
 -- what was done with the pages of a directory: all were given; or an index was not begun
-abbrev pub Began : (sees : List ℕ → Sight → Type 0) → (failed : Type 0) → Form → (dir : List ℕ) → Part → Type 0
-Began sees failed form.Printed dir part = IsAll sees failed form.Printed dir part
-Began sees failed form.Index dir part = IsAll sees failed form.Index dir part ⊎ (Ends (Err fault.Memory) part ⊎ Ends (Err fault.WriteText) part)
+abbrev pub Began : (sees : List ℕ → Sight → Type 0) → (failed unwritten : Type 0) → Form → (dir : List ℕ) → Part → Type 0
+Began sees failed unwritten form.Printed dir part = IsAll sees failed unwritten form.Printed dir part
+Began sees failed unwritten form.Index dir part = IsAll sees failed unwritten form.Index dir part ⊎ (Ends (Err fault.Memory) part ⊎ Ends (Err fault.WriteText) part)
 
 -- entries that are printed come to the output; an index that is whole takes its name, else the old one stays
 abbrev pub out_by : Form → Part → List ℕ
@@ -251,11 +256,11 @@ pub record Makes : Type 0 where
   pub done : Done
   pub put : List Index
 
-pub record MakesOf (sees : List ℕ → Sight → Type 0) (failed : Type 0) (form : Form) (dir : List ℕ) (came : Came Makes) : Type 0 where
+pub record MakesOf (sees : List ℕ → Sight → Type 0) (failed unwritten : Type 0) (form : Form) (dir : List ℕ) (came : Came Makes) : Type 0 where
   pub part : Part
-  pub is : Began sees failed form dir part
+  pub is : Began sees failed unwritten form dir part
   pub result : Result Tally Fault
-  pub answered : IsAnswered part.end result
+  pub answered : IsAnswered unwritten part.end result
   pub out : came.out ≡ out_by form part
   pub line : List ℕ
   pub err : came.err ≡ part.err ++ line
@@ -268,10 +273,10 @@ pub record NoDir (failed : Type 0) (dir : List ℕ) (came : Came Makes) : Type 0
   pub err : Told failed came.err (unopened_line (shown dir))
   pub end : came.end ≡ record { done = record { status = 6; stops = false }; put = [] }
 
-abbrev pub IsDir : (sees : List ℕ → Sight → Type 0) → (failed : Type 0) → Form → (name : List ℕ) → Came Makes → Type 0
-IsDir sees failed form.Printed name came =
-    (sees name (is_dir false) × NoDir failed name came) ⊎ (sees name (is_dir true) × MakesOf sees failed form.Printed name came)
-IsDir sees failed form.Index name came = MakesOf sees failed form.Index name came
+abbrev pub IsDir : (sees : List ℕ → Sight → Type 0) → (failed unprinted : Type 0) → Form → (name : List ℕ) → Came Makes → Type 0
+IsDir sees failed unprinted form.Printed name came =
+    (sees name (is_dir false) × NoDir failed name came) ⊎ (sees name (is_dir true) × MakesOf sees failed unprinted form.Printed name came)
+IsDir sees failed unprinted form.Index name came = MakesOf sees failed ⊤ form.Index name came
 
 -- ---- a command
 
@@ -292,5 +297,5 @@ abbrev pub form_of : Bool → Form
 form_of true = form.Printed
 form_of false = form.Index
 
-abbrev pub MakesAll : (sees : List ℕ → Sight → Type 0) → (failed : Type 0) → Wanted → Came Makes → Type 0
-MakesAll sees failed wanted = InTurn so stops_making (IsDir sees failed (form_of wanted.prints)) wanted.dirs (record { out = []; err = []; end = none_made })
+abbrev pub MakesAll : (sees : List ℕ → Sight → Type 0) → (failed unprinted : Type 0) → Wanted → Came Makes → Type 0
+MakesAll sees failed unprinted wanted = InTurn so stops_making (IsDir sees failed unprinted (form_of wanted.prints)) wanted.dirs (record { out = []; err = []; end = none_made })

@@ -1,10 +1,10 @@
 //! Indexes made of the pages of directories (makewhatis(8)).
 
-ghost use Rattle.std.specs.Prelude.{◌≡◌, ◌⊎◌, ◌<◌, ◌++◌, ℕ, List, [], Ok, Err, Some, None, true, IsOk, IfOk, MatchResult};
+ghost use Rattle.std.specs.Prelude.{◌≡◌, ◌⊎◌, ◌<◌, ◌++◌, ⊤, ℕ, List, [], Ok, Err, Some, None, true, IsOk, IfOk, MatchResult};
 ghost use Rattle.page_core_streams.specs.Streams.{Grows};
 ghost use Rattle.mandoc_command.specs.Line.{indexes_of};
 ghost use Rattle.mandoc_formats.specs.Formats.{HasFailed, shown};
-ghost use Rattle.mandoc_programs.specs.Indexes.{Began, IsAll, IsAnswered, IsBegun, IsDir, IsSaid, Makes, MakesAll, Part, PutsIn, Reported, first_line, form_of, puts, tail};
+ghost use Rattle.mandoc_programs.specs.Indexes.{Began, IsAll, IsAnswered, IsBegun, IsDir, IsSaid, Makes, MakesAll, Part, PutsIn, Reported, first_line, form_of, lost, puts, tail};
 ghost use Rattle.mandoc_formats.specs.Turns.{Came, Does};
 ghost use Rattle.mandoc_programs.specs.declared.pages.Form.TheVariants.{Index, Printed};
 
@@ -33,7 +33,7 @@ pub fn makewhatis<R: Folders, P: IndexPlaces, W: Buffered, V: Buffered>(
     out: &mut W,
     err: &mut V,
 ) -> u8
-    ensures came { (all : Came Makes) × MakesAll (R.sees files.now) (HasFailed V.counts V.failures) (indexes_of asked.now) all
+    ensures came { (all : Came Makes) × MakesAll (R.sees files.now) (HasFailed V.counts V.failures) (HasFailed W.counts W.failures) (indexes_of asked.now) all
         × Grows (W.contents out.old) (W.contents out.new) all.out × Grows (V.contents err.old) (V.contents err.new) all.err
         × Grows (P.put places.old) (P.put places.new) all.end.put × (result ≡ all.end.done.status) }
     ensures put_out { W.waits out.old ≡ [] → result < 6 → W.waits out.new ≡ [] }
@@ -73,7 +73,7 @@ fn give_dir<R: Folders, P: IndexPlaces, W: Buffered, V: Buffered>(
     out: &mut W,
     err: &mut V,
 ) -> Done
-    ensures came { (end : Makes) × Does (IsDir (R.sees pages.now.files.now) (HasFailed V.counts V.failures) pages.now.form pages.now.dir.now) end
+    ensures came { (end : Makes) × Does (IsDir (R.sees pages.now.files.now) (HasFailed V.counts V.failures) (HasFailed W.counts W.failures) pages.now.form pages.now.dir.now) end
         (W.contents out.old) (W.contents out.new) (V.contents err.old) (V.contents err.new)
         × Grows (P.put places.old) (P.put places.new) end.put × (end.done ≡ result) }
     ensures put_out { W.waits out.old ≡ [] → result.status < 6 → W.waits out.new ≡ [] }
@@ -92,7 +92,7 @@ fn print_dir<R: Folders, W: Buffered, V: Buffered>(
     err: &mut V,
 ) -> Done
     requires { pages.now.form ≡ Printed }
-    ensures came { Does (IsDir (R.sees pages.now.files.now) (HasFailed V.counts V.failures) Printed pages.now.dir.now) (record { done = result; put = [] })
+    ensures came { Does (IsDir (R.sees pages.now.files.now) (HasFailed V.counts V.failures) (HasFailed W.counts W.failures) Printed pages.now.dir.now) (record { done = result; put = [] })
         (W.contents out.old) (W.contents out.new) (V.contents err.old) (V.contents err.new) }
     ensures put_out { result.status < 6 → W.waits out.new ≡ [] }
     ensures said { result.status < 6 → IsSaid (V.waits err.new) (HasFailed V.counts V.failures) }
@@ -112,7 +112,7 @@ fn make_index<R: Folders, P: IndexPlaces, V: Buffered>(
     err: &mut V,
 ) -> Done
     requires { pages.now.form ≡ Index }
-    ensures came { (end : Makes) × Does (IsDir (R.sees pages.now.files.now) (HasFailed V.counts V.failures) Index pages.now.dir.now) end None None (V.contents err.old) (V.contents err.new)
+    ensures came { (end : Makes) × Does (IsDir (R.sees pages.now.files.now) (HasFailed V.counts V.failures) ⊤ Index pages.now.dir.now) end None None (V.contents err.old) (V.contents err.new)
         × Grows (P.put places.old) (P.put places.new) end.put × (end.done ≡ result) }
     ensures said { result.status < 6 → IsSaid (V.waits err.new) (HasFailed V.counts V.failures) }
 {
@@ -146,12 +146,14 @@ fn tail(form: Form) -> &'static str
 }
 
 // Gives the records of all pages in a directory, and puts out what waits of them.
+#[tactic(auto, using(crate::proofs::Parts::lost_so))]
 fn give_waiting<R: Folders, W: Buffered, V: Buffered>(
     pages: &Pages<R>,
     out: &mut W,
     err: &mut V,
 ) -> Result<Tally, Fault>
-    ensures came { (part : Part) × IsAll (R.sees pages.now.files.now) (HasFailed V.counts V.failures) pages.now.form pages.now.dir.now part × IsAnswered part.end result
+    ensures came { (part : Part) × IsAll (R.sees pages.now.files.now) (HasFailed V.counts V.failures) (lost pages.now.form (HasFailed W.counts W.failures)) pages.now.form pages.now.dir.now part
+        × IsAnswered (lost pages.now.form (HasFailed W.counts W.failures)) part.end result
         × Grows (W.contents out.old) (W.contents out.new) part.out × Grows (V.contents err.old) (V.contents err.new) part.err }
     ensures empty { IfOk result (λ _. W.waits out.new ≡ []) }
 {
@@ -172,7 +174,7 @@ fn put_index<R: Folders, P: IndexPlaces, V: Buffered>(
     err: &mut V,
 ) -> Result<Tally, Fault>
     requires { pages.now.form ≡ Index }
-    ensures { (part : Part) × Began (R.sees pages.now.files.now) (HasFailed V.counts V.failures) Index pages.now.dir.now part × IsAnswered part.end result
+    ensures { (part : Part) × Began (R.sees pages.now.files.now) (HasFailed V.counts V.failures) ⊤ Index pages.now.dir.now part × IsAnswered ⊤ part.end result
         × Grows (V.contents err.old) (V.contents err.new) part.err
         × Grows (P.put places.old) (P.put places.new) (puts Index pages.now.dir.now part result) }
 {
@@ -192,7 +194,7 @@ fn finish_index<R: Folders, P: IndexPlaces, V: Buffered>(
 ) -> Result<Tally, Fault>
     requires form { pages.now.form ≡ Index }
     requires begun { IsBegun (P.put places.old) (P.begun places.old) pages.now.dir.now (P.File.contents file) }
-    ensures { (part : Part) × Began (R.sees pages.now.files.now) (HasFailed V.counts V.failures) Index pages.now.dir.now part × IsAnswered part.end result
+    ensures { (part : Part) × Began (R.sees pages.now.files.now) (HasFailed V.counts V.failures) ⊤ Index pages.now.dir.now part × IsAnswered ⊤ part.end result
         × Grows (V.contents err.old) (V.contents err.new) part.err
         × Grows (P.put places.old) (P.put places.new) (puts Index pages.now.dir.now part result) }
 {
@@ -228,7 +230,7 @@ fn write_index<R: Folders, W: Buffered, V: Buffered>(
     err: &mut V,
 ) -> Result<Tally, Fault>
     requires { pages.now.form ≡ Index }
-    ensures came { (part : Part) × Began (R.sees pages.now.files.now) (HasFailed V.counts V.failures) Index pages.now.dir.now part × IsAnswered part.end result
+    ensures came { (part : Part) × Began (R.sees pages.now.files.now) (HasFailed V.counts V.failures) ⊤ Index pages.now.dir.now part × IsAnswered ⊤ part.end result
         × Grows (V.contents err.old) (V.contents err.new) part.err
         × (IsOk result → Grows (W.contents index.old) (W.contents index.new) (first_line ++ part.out)) }
     ensures empty { IfOk result (λ _. W.waits index.new ≡ []) }

@@ -7,7 +7,7 @@
 //! Proved: `run_command`: what came to the output and beside it, the indexes that took their names, and the status (`specs/Commands.antt`).
 //! `makewhatis`: of each directory in turn the entries of its pages, folder by folder, in the order of their names, printed, or in an index that takes
 //! its name once it is whole; and the lines about what can't be read or is compressed (`Indexes.antt`). `search`: the rows of an index for the words
-//! and the section, or a line about it (`Searches.antt`). `bearing_of_folder`, `bearing_of_file`, `bearing_of_page`: which faults keep an old index
+//! and the section, or a line about it, whose fault has its cause where entries are printed (`Searches.antt`). `bearing_of_folder`, `bearing_of_file`, `bearing_of_page`: which faults keep an old index
 //! (`Bearings.antt`).
 //!
 //! Read first: `run_command` in `commands.rt`, with `specs/Commands.antt`; then `makewhatis` and `search`.

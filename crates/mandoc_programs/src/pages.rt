@@ -1,10 +1,10 @@
 //! The records of the pages in a directory (makewhatis(8)).
 
 ghost use Rattle.std.specs.Prelude.{◌≡◌, ℕ, List, Ok, Option, map, string_bytes, true, MatchResult, IfErr, IfOk};
-ghost use Rattle.page_core_streams.specs.Streams.{Grows, GrowsInto};
+ghost use Rattle.page_core_streams.specs.Streams.{ErrsBy, Grows, GrowsInto};
 ghost use Rattle.page_engine_index.specs.Fields.{is_field};
 ghost use Rattle.mandoc_programs.specs.Bearings.{bearing_of_folder};
-ghost use Rattle.mandoc_programs.specs.Indexes.{Gives, IsAll, IsFolder, IsListed, IsNamed, IsOpened, IsPage, OfListed, OfPage, OfUnlisted, PartsOf, after, below, entry_by, unlisted_text};
+ghost use Rattle.mandoc_programs.specs.Indexes.{Gives, IsAll, IsFolder, IsListed, IsNamed, IsOpened, IsPage, OfListed, OfPage, OfUnlisted, PartsOf, after, below, entry_by, lost, unlisted_text};
 ghost use Rattle.mandoc_formats.specs.Formats.{HasFailed};
 ghost use Rattle.mandoc_formats.specs.Turns.{Does};
 
@@ -86,7 +86,7 @@ impl<R: Folders> Pages<'_, R> {
         out: &mut W,
         err: &mut V,
     ) -> Result<Tally, Fault>
-        ensures { Does (IsAll (R.sees self.now.files.now) (HasFailed V.counts V.failures) self.now.form self.now.dir.now) result
+        ensures { Does (IsAll (R.sees self.now.files.now) (HasFailed V.counts V.failures) (lost self.now.form (HasFailed W.counts W.failures)) self.now.form self.now.dir.now) result
             (W.contents out.old) (W.contents out.new) (V.contents err.old) (V.contents err.new) }
     {
         let given = self.give_folders(&FOLDERS, out, err);
@@ -101,7 +101,7 @@ impl<R: Folders> Pages<'_, R> {
         out: &mut W,
         err: &mut V,
     ) -> Result<Tally, Fault>
-        ensures { Does (PartsOf (IsFolder (R.sees self.now.files.now) (HasFailed V.counts V.failures) self.now.form self.now.dir.now) (map (λ folder. folder.now) folders.now)) result
+        ensures { Does (PartsOf (IsFolder (R.sees self.now.files.now) (HasFailed V.counts V.failures) (lost self.now.form (HasFailed W.counts W.failures)) self.now.form self.now.dir.now) (map (λ folder. folder.now) folders.now)) result
             (W.contents out.old) (W.contents out.new) (V.contents err.old) (V.contents err.new) }
     {
         let mut tally = Tally::with(0);
@@ -121,7 +121,7 @@ impl<R: Folders> Pages<'_, R> {
         out: &mut W,
         err: &mut V,
     ) -> Result<Tally, Fault>
-        ensures { Does (IsFolder (R.sees self.now.files.now) (HasFailed V.counts V.failures) self.now.form self.now.dir.now folder.now) result
+        ensures { Does (IsFolder (R.sees self.now.files.now) (HasFailed V.counts V.failures) (lost self.now.form (HasFailed W.counts W.failures)) self.now.form self.now.dir.now folder.now) result
             (W.contents out.old) (W.contents out.new) (V.contents err.old) (V.contents err.new) }
     {
         match below(self.alloc, self.dir, folder) {
@@ -138,7 +138,7 @@ impl<R: Folders> Pages<'_, R> {
         out: &mut W,
         err: &mut V,
     ) -> Result<Tally, Fault>
-        ensures { Does (IsListed (R.sees self.now.files.now) (HasFailed V.counts V.failures) self.now.form self.now.dir.now folder.now path.now) result
+        ensures { Does (IsListed (R.sees self.now.files.now) (HasFailed V.counts V.failures) (lost self.now.form (HasFailed W.counts W.failures)) self.now.form self.now.dir.now folder.now path.now) result
             (W.contents out.old) (W.contents out.new) (V.contents err.old) (V.contents err.new) }
     {
         match self.files.list(self.alloc, path) {
@@ -155,7 +155,7 @@ impl<R: Folders> Pages<'_, R> {
         out: &mut W,
         err: &mut V,
     ) -> Result<Tally, Fault>
-        ensures { (path : List ℕ) → Does (OfListed (R.sees self.now.files.now) (HasFailed V.counts V.failures) self.now.form self.now.dir.now folder.now path (Ok (map string_bytes names.items))) result
+        ensures { (path : List ℕ) → Does (OfListed (R.sees self.now.files.now) (HasFailed V.counts V.failures) (lost self.now.form (HasFailed W.counts W.failures)) self.now.form self.now.dir.now folder.now path (Ok (map string_bytes names.items))) result
             (W.contents out.old) (W.contents out.new) (V.contents err.old) (V.contents err.new) }
     {
         let mut names = names;
@@ -171,7 +171,7 @@ impl<R: Folders> Pages<'_, R> {
         out: &mut W,
         err: &mut V,
     ) -> Result<Tally, Fault>
-        ensures { Does (PartsOf (IsPage (R.sees self.now.files.now) (HasFailed V.counts V.failures) self.now.form self.now.dir.now folder.now) (map string_bytes names.now)) result
+        ensures { Does (PartsOf (IsPage (R.sees self.now.files.now) (HasFailed V.counts V.failures) (lost self.now.form (HasFailed W.counts W.failures)) self.now.form self.now.dir.now folder.now) (map string_bytes names.now)) result
             (W.contents out.old) (W.contents out.new) (V.contents err.old) (V.contents err.new) }
     {
         let mut tally = Tally::with(0);
@@ -192,7 +192,7 @@ impl<R: Folders> Pages<'_, R> {
         out: &mut W,
         err: &mut V,
     ) -> Result<Tally, Fault>
-        ensures { Does (IsPage (R.sees self.now.files.now) (HasFailed V.counts V.failures) self.now.form self.now.dir.now folder.now name.now) result
+        ensures { Does (IsPage (R.sees self.now.files.now) (HasFailed V.counts V.failures) (lost self.now.form (HasFailed W.counts W.failures)) self.now.form self.now.dir.now folder.now name.now) result
             (W.contents out.old) (W.contents out.new) (V.contents err.old) (V.contents err.new) }
     {
         match below(self.alloc, folder, name) {
@@ -208,7 +208,7 @@ impl<R: Folders> Pages<'_, R> {
         out: &mut W,
         err: &mut V,
     ) -> Result<Tally, Fault>
-        ensures { Does (IsNamed (R.sees self.now.files.now) (HasFailed V.counts V.failures) self.now.form self.now.dir.now file.now) result
+        ensures { Does (IsNamed (R.sees self.now.files.now) (HasFailed V.counts V.failures) (lost self.now.form (HasFailed W.counts W.failures)) self.now.form self.now.dir.now file.now) result
             (W.contents out.old) (W.contents out.new) (V.contents err.old) (V.contents err.new) }
     {
         if !is_field(file) {
@@ -229,7 +229,7 @@ impl<R: Folders> Pages<'_, R> {
         err: &mut V,
     ) -> Result<Tally, Fault>
         requires { is_field file.now ≡ true }
-        ensures { Does (IsOpened (R.sees self.now.files.now) (HasFailed V.counts V.failures) self.now.form self.now.dir.now file.now path.now) result
+        ensures { Does (IsOpened (R.sees self.now.files.now) (HasFailed V.counts V.failures) (lost self.now.form (HasFailed W.counts W.failures)) self.now.form self.now.dir.now file.now path.now) result
             (W.contents out.old) (W.contents out.new) (V.contents err.old) (V.contents err.new) }
     {
         match self.files.open(path) {
@@ -252,7 +252,7 @@ impl<R: Folders> Pages<'_, R> {
         err: &mut V,
     ) -> Result<Tally, Fault>
         requires { is_field file.now ≡ true }
-        ensures { Does (OfPage (HasFailed V.counts V.failures) self.now.form path.now file.now (I.remaining input.old)) result
+        ensures { Does (OfPage (HasFailed V.counts V.failures) (lost self.now.form (HasFailed W.counts W.failures)) self.now.form path.now file.now (I.remaining input.old)) result
             (W.contents out.old) (W.contents out.new) (V.contents err.old) (V.contents err.new) }
     {
         match find_record(self.alloc, input) {
@@ -278,7 +278,7 @@ fn give_record<W: Target>(
     file: &str,
 ) -> Result<Tally, Fault>
     requires { is_field file.now ≡ true }
-    ensures { (err : Option (List ℕ)) → Does (Gives (entry_by form file.now page.now)) result (W.contents out.old) (W.contents out.new) err err }
+    ensures { (err : Option (List ℕ)) → Does (Gives (lost form (HasFailed W.counts W.failures)) (entry_by form file.now page.now)) result (W.contents out.old) (W.contents out.new) err err }
 {
     match write_in(out, form, page, file) {
         Ok(()) => Ok(Tally::with(0)),
@@ -292,6 +292,7 @@ fn write_in<W: Target>(out: &mut W, form: Form, page: &Record, file: &str) -> Re
     ensures gives { MatchResult result
         (λ _. Grows (W.contents out.old) (W.contents out.new) (entry_by form file.now page.now))
         (λ _. GrowsInto (W.contents out.old) (W.contents out.new) (entry_by form file.now page.now)) }
+    ensures cause { ErrsBy W.counts result (W.failures out.old) (W.failures out.new) }
     ensures fault { IfErr result (λ fault. fault ≡ Fault.WriteText) }
 {
     match form {

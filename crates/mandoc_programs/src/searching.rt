@@ -6,8 +6,8 @@ ghost use Rattle.page_core_streams.specs.Streams.{Grows};
 ghost use Rattle.page_engine_index.specs.Searches.{Searches};
 ghost use Rattle.page_engine_index.specs.Whatis.{asked};
 ghost use Rattle.mandoc_command.specs.Line.{searches_of};
-ghost use Rattle.mandoc_formats.specs.Formats.{Did, File, HasFailed, IsFound, shown};
-ghost use Rattle.mandoc_programs.specs.Searches.{IsOf, IsSearch, IsAnswered, Search, Searched, SearchesFor, asked_by, index_in, prints};
+ghost use Rattle.mandoc_formats.specs.Formats.{Did, File, HasCause, HasFailed, IsFound, shown};
+ghost use Rattle.mandoc_programs.specs.Searches.{IsOf, IsSearch, IsAnswered, Search, Searched, SearchesFor, asked_by, index_causes, index_in, prints};
 
 use crate::shown_rows::ShownRows;
 use mandoc_command::Whatis;
@@ -15,10 +15,9 @@ use mandoc_formats::{
     Buffered, Done, Finds, report_fault, report_fault_at, report_unopened, shown_name,
 };
 use page_core_base::Fault;
-use page_core_streams::{Counted, Target};
+use page_core_streams::{Counted, Input, Target};
 use page_engine_index::{Query, Show, search_index, whatis};
 use std::alloc::{AllocError, Global};
-use std::io::Read;
 
 /// The name of an index, below its directory.
 pub(crate) const INDEX: &str = "/whatis.idx";
@@ -40,7 +39,7 @@ pub fn search<R: Finds, W: Buffered, V: Buffered>(
     out: &mut W,
     err: &mut V,
 ) -> u8
-    ensures came { (file : File) × SearchesFor (R.finds rt.now) (HasFailed V.counts V.failures) (searches_of asked.now) file
+    ensures came { (file : File) × SearchesFor (R.finds rt.now) (HasFailed V.counts V.failures) (index_causes R.File.counts W.counts R.File.state W.failures) (searches_of asked.now) file
         × Grows (W.contents out.old) (W.contents out.new) file.out × Grows (V.contents err.old) (V.contents err.new) file.err
         × (result ≡ file.end.status) }
     ensures put_out { result < 6 → (W.waits out.new ≡ []) × (err.new ≡ err.old) }
@@ -60,7 +59,7 @@ fn search_in<R: Finds, W: Buffered, V: Buffered>(
     out: &mut W,
     err: &mut V,
 ) -> Done
-    ensures { Did (IsSearch (R.finds rt.now) (HasFailed V.counts V.failures) dir.now (asked_by (searches_of asked.now))) result
+    ensures { Did (IsSearch (R.finds rt.now) (HasFailed V.counts V.failures) (index_causes R.File.counts W.counts R.File.state W.failures) dir.now (asked_by (searches_of asked.now))) result
         (W.contents out.old) (W.contents out.new) (V.contents err.old) (V.contents err.new) ((W.waits out.new ≡ []) × (err.new ≡ err.old)) }
 {
     match names_of_index(alloc, dir) {
@@ -98,7 +97,7 @@ fn search_named<R: Finds, W: Buffered, V: Buffered>(
     out: &mut W,
     err: &mut V,
 ) -> Done
-    ensures { Did (IsFound (R.finds rt.now) (HasFailed V.counts V.failures) (Searched (HasFailed V.counts V.failures) (asked_by (searches_of asked.now)) shown.now) name.now shown.now) result
+    ensures { Did (IsFound (R.finds rt.now) (HasFailed V.counts V.failures) (Searched (HasFailed V.counts V.failures) (index_causes R.File.counts W.counts R.File.state W.failures) (asked_by (searches_of asked.now)) shown.now) name.now shown.now) result
         (W.contents out.old) (W.contents out.new) (V.contents err.old) (V.contents err.new) ((W.waits out.new ≡ []) × (err.new ≡ err.old)) }
 {
     match rt.find(name) {
@@ -108,7 +107,7 @@ fn search_named<R: Finds, W: Buffered, V: Buffered>(
 }
 
 // Searches an index, and reports its fault.
-fn search_found<I: Read, W: Buffered, V: Buffered>(
+fn search_found<I: Input, W: Buffered, V: Buffered>(
     alloc: Global,
     index: &mut I,
     shown: &str,
@@ -116,7 +115,7 @@ fn search_found<I: Read, W: Buffered, V: Buffered>(
     out: &mut W,
     err: &mut V,
 ) -> Done
-    ensures { Did (Searched (HasFailed V.counts V.failures) (asked_by (searches_of asked.now)) shown.now (I.remaining index.old)) result
+    ensures { Did (Searched (HasFailed V.counts V.failures) (index_causes I.counts W.counts I.state W.failures) (asked_by (searches_of asked.now)) shown.now (I.state index.old).remaining) result
         (W.contents out.old) (W.contents out.new) (V.contents err.old) (V.contents err.new) ((W.waits out.new ≡ []) × (err.new ≡ err.old)) }
 {
     match print_waiting(alloc, index, asked, out) {
@@ -133,15 +132,16 @@ fn status_by(count: u64) -> u8
 }
 
 // Prints the rows of an index, puts out what waits of them, and answers their number.
-fn print_waiting<I: Read, W: Buffered>(
+fn print_waiting<I: Input, W: Buffered>(
     alloc: Global,
     index: &mut I,
     asked: &Whatis,
     out: &mut W,
 ) -> Result<u64, Fault>
     ensures ran { (search : Search) × IsOf (asked_by (searches_of asked.now)) search
-        × Consumes (I.remaining index.old) search.left search.bytes
+        × Consumes (I.state index.old).remaining search.left search.bytes
         × IsAnswered search.end result × Grows (W.contents out.old) (W.contents out.new) search.rows }
+    ensures cause { (asked_by (searches_of asked.now)).show ≡ Show.Entry → HasCause (index_causes I.counts W.counts I.state W.failures) result }
     ensures empty { IfOk result (λ _. W.waits out.new ≡ []) }
 {
     let found = print_rows(alloc, index, asked, out);
@@ -155,29 +155,31 @@ fn print_waiting<I: Read, W: Buffered>(
 }
 
 // Prints the rows of an index, and answers their number.
-fn print_rows<I: Read, W: Target>(
+fn print_rows<I: Input, W: Target>(
     alloc: Global,
     index: &mut I,
     asked: &Whatis,
     out: &mut W,
 ) -> Result<u64, Fault>
-    ensures { (search : Search) × IsOf (asked_by (searches_of asked.now)) search
-        × Consumes (I.remaining index.old) search.left search.bytes
+    ensures ran { (search : Search) × IsOf (asked_by (searches_of asked.now)) search
+        × Consumes (I.state index.old).remaining search.left search.bytes
         × (search.end ≡ result) × Grows (W.contents out.old) (W.contents out.new) search.rows }
+    ensures cause { (asked_by (searches_of asked.now)).show ≡ Show.Entry → HasCause (index_causes I.counts W.counts I.state W.failures) result }
 {
     give_rows(alloc, index, asked, out)
 }
 
 // `print_rows`, by what came to the writer.
-fn give_rows<I: Read, W: Target>(
+fn give_rows<I: Input, W: Target>(
     alloc: Global,
     index: &mut I,
     asked: &Whatis,
     out: &mut W,
 ) -> Result<u64, Fault>
-    ensures { (bytes : List ℕ) × Consumes (I.remaining index.old) (I.remaining index.new) bytes
+    ensures searches { (bytes : List ℕ) × Consumes (I.state index.old).remaining (I.state index.new).remaining bytes
         × Searches result (prints (asked_by (searches_of asked.now)).show W.contents) out.old out.new
-        (asked_by (searches_of asked.now)) bytes (I.remaining index.new) }
+        (asked_by (searches_of asked.now)) bytes (I.state index.new).remaining }
+    ensures cause { (asked_by (searches_of asked.now)).show ≡ Show.Entry → HasCause (index_causes I.counts W.counts I.state W.failures) result }
 {
     let Ok(words) = borrowed(alloc, asked.words.as_slice()) else {
         return Err(Fault::Memory);
@@ -211,16 +213,16 @@ fn borrowed(alloc: Global, texts: &[String]) -> Result<Vec<&str>, AllocError>
 }
 
 // Gives the files of the entries that words match, and answers their number.
-fn give_files<I: Read, W: Target>(
+fn give_files<I: Input, W: Target>(
     alloc: Global,
     index: &mut I,
     out: &mut W,
     words: &[&str],
     section: Option<&str>,
 ) -> Result<u64, Fault>
-    ensures { (bytes : List ℕ) × Consumes (I.remaining index.old) (I.remaining index.new) bytes
+    ensures { (bytes : List ℕ) × Consumes (I.state index.old).remaining (I.state index.new).remaining bytes
         × Searches result (prints Show.File W.contents) out.old out.new
-        (asked words.now section.entry Show.File) bytes (I.remaining index.new) }
+        (asked words.now section.entry Show.File) bytes (I.state index.new).remaining }
 {
     let query = Query {
         words,

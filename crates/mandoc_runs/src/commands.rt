@@ -1,14 +1,13 @@
 //! What a command line asks for, done over the system's files (mandoc(1), makewhatis(8), whatis(1)).
 
 ghost use Rattle.std.specs.Prelude.{◌≡◌, ◌⊎◌};
-ghost use Rattle.mandoc_formats.specs.Formats.{HasFailed};
 ghost use Rattle.mandoc_programs.specs.Commands.{Ran, ReadsInput};
 
 use crate::host_files::{IndexFiles, RegularFiles};
 use crate::unfinished::LockedFiles;
 use mandoc_command::Command;
 use mandoc_formats::Waiting;
-use page_core_streams::Target;
+use page_core_streams::{Input, Target};
 use std::alloc::Global;
 use std::io::{Read, Write};
 
@@ -21,7 +20,7 @@ pub fn run_command<R: LockedFiles, I: Read, W: Write, V: Write>(
     out: W,
     err: V,
 ) -> (u8, W, V)
-    ensures ran { Ran (HasFailed ⟦<Waiting<V> as Target>⟧.counts ⟦<Waiting<V> as Target>⟧.failures) command.now (I.remaining input.old)
+    ensures ran { Ran ⟦<I as Input>⟧.state ⟦<R::File as Input>⟧.state ⟦<Waiting<W> as Target>⟧.failures ⟦<Waiting<V> as Target>⟧.failures command.now (I.remaining input.old)
         result.0 (W.contents out) (W.contents result.1) (V.contents err) (V.contents result.2) }
     ensures input { ReadsInput command.now ⊎ (input.new ≡ input.old) }
 {

@@ -2,5 +2,4 @@
 pub mod Held
 pub mod Layers
 pub mod PageSinks
-pub mod Layers
 pub mod Steps

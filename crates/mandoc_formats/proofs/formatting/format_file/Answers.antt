@@ -11,7 +11,7 @@ returns-in-Ok g c =
     let failed = HasFailed g.V.Target.counts g.V.Target.failures in
     let settings = c.args.settings.now in (
       f.0,
-      inr (subst (λ (s : List ℕ). IsFound finds failed (Formatted failed settings s) c.args.name.now s f.0) (c.as_str.ensures.value ∙ c.in-Ok.ensures) f.1),
+      inr (subst (λ (s : List ℕ). IsFound finds failed (Formatted failed _ settings s) c.args.name.now s f.0) (c.as_str.ensures.value ∙ c.in-Ok.ensures) f.1),
       f.2,
       f.3,
       f.4,

@@ -2,7 +2,7 @@ use Rattle.std.proofs.Common.{◌++◌, Result, Ok, Err, refl, ◌∙◌, subst}
 use Rattle.page_core_base.specs.declared.faults.Fault.{Fault}
 use Rattle.page_core_streams.specs.laws.Views.{Grows-append}
 use Rattle.page_engine.specs.declared.runs.Outcome.{Outcome}
-use Rattle.mandoc_formats.specs.Formats.{IsReported, page_out, page_err}
+use Rattle.mandoc_formats.specs.Formats.{HasCause, IsReported, page_out, page_err}
 use Rattle.mandoc_formats.proofs.Turns.{none_below}
 use Rattle.mandoc_formats.proofs.formatting.format_page.Goals as goal
 
@@ -18,6 +18,7 @@ returns-in-Ok g c =
         read = r.2;
         result = Ok c.in-Ok.outcome;
         ended = subst (λ (x : Result Outcome Fault). IsReported r.0.end x) c.in-Ok.is r.3;
+        cause = subst (HasCause _) c.in-Ok.is c.run_waiting.ensures.cause;
         out = refl;
         told = (refl, c.with.ensures.status ∙ c.status_of.ensures, c.with.ensures.goes_on);
       },
@@ -40,6 +41,7 @@ returns-in-Err g c =
         read = r.2;
         result = Err c.in-Err.fault;
         ended = subst (λ (x : Result Outcome Fault). IsReported r.0.end x) c.in-Err.is r.3;
+        cause = subst (HasCause _) c.in-Err.is c.run_waiting.ensures.cause;
         out = refl;
         told = ((line.part, refl, line.told), f.ensures.status, f.ensures.stops);
       },

@@ -28,4 +28,4 @@ returns-in-Ok g c =
 pub returns-in-Err : goal.returns-in-Err
 returns-in-Err g c =
     let h = c.write_index-written.ensures.came in
-    (h.0, h.1, subst (λ (r : Result Tally Fault). IsAnswered h.0.end r) c.in-Err.is h.2, h.3, c.give_up.ensures)
+    (h.0, h.1, subst (λ (r : Result Tally Fault). IsAnswered _ h.0.end r) c.in-Err.is h.2, h.3, c.give_up.ensures)

@@ -10,7 +10,7 @@ pub returns-in-Printed-clause-came : goal.returns-in-Printed-clause-came
 returns-in-Printed-clause-came g c =
     let h = c.print_dir.ensures.came in
     let end : Makes = record { done = c.print_dir.result; put = [] } in
-    let is = subst (λ (f : Form). IsDir (g.R.Folders.sees c.args.pages.now.files.now) (HasFailed g.V.Target.counts g.V.Target.failures) f c.args.pages.now.dir.now h.0) (sym c.in-Printed.is) h.1 in
+    let is = subst (λ (f : Form). IsDir (g.R.Folders.sees c.args.pages.now.files.now) (HasFailed g.V.Target.counts g.V.Target.failures) (HasFailed g.W.Target.counts g.W.Target.failures) f c.args.pages.now.dir.now h.0) (sym c.in-Printed.is) h.1 in
     (end, (h.0, is, h.2, h.3, h.4), Grows-nil _, refl)
 
 pub returns-in-Index-clause-came : goal.returns-in-Index-clause-came
@@ -18,5 +18,5 @@ returns-in-Index-clause-came g c =
     let h = c.make_index.ensures.came in
     let m = h.1 in
     let a = g.W.Target.contents c.args.out.now in
-    let is = subst (λ (f : Form). IsDir (g.R.Folders.sees c.args.pages.now.files.now) (HasFailed g.V.Target.counts g.V.Target.failures) f c.args.pages.now.dir.now m.0) (sym c.in-Index.is) m.1 in
+    let is = subst (λ (f : Form). IsDir (g.R.Folders.sees c.args.pages.now.files.now) (HasFailed g.V.Target.counts g.V.Target.failures) (HasFailed g.W.Target.counts g.W.Target.failures) f c.args.pages.now.dir.now m.0) (sym c.in-Index.is) m.1 in
     (h.0, (m.0, is, subst (λ (l : List ℕ). Grows a a l) (sym m.1.out) (Grows-nil a), m.3, m.4), h.2, h.3)

@@ -11,7 +11,7 @@ use Rattle.mandoc_programs.proofs.indexing.makewhatis.Goals as goal
 
 pub loop-name-init : goal.loop-name-init
 loop-name-init g c =
-    let is = IsDir (g.R.Folders.sees c.args.files.now) (HasFailed g.V.Target.counts g.V.Target.failures) c.form_of-form.result in
+    let is = IsDir (g.R.Folders.sees c.args.files.now) (HasFailed g.V.Target.counts g.V.Target.failures) (HasFailed g.W.Target.counts g.W.Target.failures) c.form_of-form.result in
     (none_made, passed_none so stops_making is string_bytes c.as_slice-names.result.now none_made _ _, Grows-nil _, refl, λ e l. e, λ e l. inl e)
 
 pub returns-then-done : goal.returns-then-done
@@ -20,15 +20,15 @@ returns-then-done g c =
     let i = c.loop-name.invariant in
     let done = c.give_dir-done.result in
     let m = c.give_dir-done.ensures.came in
-    let h = ended_at so stops_making (IsDir sees (HasFailed g.V.Target.counts g.V.Target.failures) c.form_of-form.result) string_bytes c.as_slice-names.result.now none_made c.loop-name.name-index _ _ _ _ _ _ i.0 m.0
+    let h = ended_at so stops_making (IsDir sees (HasFailed g.V.Target.counts g.V.Target.failures) (HasFailed g.W.Target.counts g.W.Target.failures) c.form_of-form.result) string_bytes c.as_slice-names.result.now none_made c.loop-name.name-index _ _ _ _ _ _ i.0 m.0
     c.name-item.result c.as_str-dir.result.now i.1 c.loop-name-test.true (c.as_str-dir.ensures.value ∙ ap string_bytes c.name-item.is) m.1 (ap (λ d. d.stops) m.3 ∙ c.if-done.true) in
     let worst = c.max-worst.ensures ∙ worst_is c.loop-name.worst done.status in
     let status : max c.loop-name.worst done.status ≡ max i.0.done.status m.0.done.status = λ k. max (sym i.3 k).status (sym m.3 k).status in
-    let all = subst (λ (l : List (List ℕ)). InTurn so stops_making (IsDir sees (HasFailed g.V.Target.counts g.V.Target.failures) c.form_of-form.result) l (start none_made) h.0) c.as_slice-names.ensures h.1 in
+    let all = subst (λ (l : List (List ℕ)). InTurn so stops_making (IsDir sees (HasFailed g.V.Target.counts g.V.Target.failures) (HasFailed g.W.Target.counts g.W.Target.failures) c.form_of-form.result) l (start none_made) h.0) c.as_slice-names.ensures h.1 in
     let put = Grows-append _ _ _ i.0.put m.0.put i.2 m.2 in record {
       came = (
         h.0,
-        subst (λ (f : Form). InTurn so stops_making (IsDir sees (HasFailed g.V.Target.counts g.V.Target.failures) f) c.args.asked.now.dirs (start none_made) h.0) c.form_of-form.ensures all,
+        subst (λ (f : Form). InTurn so stops_making (IsDir sees (HasFailed g.V.Target.counts g.V.Target.failures) (HasFailed g.W.Target.counts g.W.Target.failures) f) c.args.asked.now.dirs (start none_made) h.0) c.form_of-form.ensures all,
         h.2,
         h.3,
         subst (λ (l : List Index). Grows (g.P.IndexPlaces.put c.args.places.now) (g.P.IndexPlaces.put c.give_dir-done.new.places) l) (sym (ap (λ e. e.put) h.4)) put,
@@ -45,7 +45,7 @@ loop-name-preserved g c =
     let m = c.give_dir-done.ensures.came in
     let worst = c.max-worst.ensures ∙ worst_is c.loop-name.worst done.status in (
       so i.0 m.0,
-      passed_on so stops_making (IsDir (g.R.Folders.sees c.args.files.now) (HasFailed g.V.Target.counts g.V.Target.failures) c.form_of-form.result) string_bytes c.as_slice-names.result.now none_made c.loop-name.name-index _ _ _ _ _ _ i.0 m.0
+      passed_on so stops_making (IsDir (g.R.Folders.sees c.args.files.now) (HasFailed g.V.Target.counts g.V.Target.failures) (HasFailed g.W.Target.counts g.W.Target.failures) c.form_of-form.result) string_bytes c.as_slice-names.result.now none_made c.loop-name.name-index _ _ _ _ _ _ i.0 m.0
           c.name-item.result c.as_str-dir.result.now i.1 c.loop-name-test.true (c.as_str-dir.ensures.value ∙ ap string_bytes c.name-item.is) m.1 (ap (λ d. d.stops) m.3 ∙ c.if-done.false),
       Grows-append _ _ _ i.0.put m.0.put i.2 m.2,
       (λ k. worse (i.3 k) (m.3 k)) ∙ left_so c.loop-name.worst c.max-worst.result done c.max-worst.ensures c.if-done.false,
@@ -57,11 +57,11 @@ pub returns : goal.returns
 returns g c =
     let sees = g.R.Folders.sees c.args.files.now in
     let i = c.loop-name.invariant in
-    let h = ended_last so stops_making (IsDir sees (HasFailed g.V.Target.counts g.V.Target.failures) c.form_of-form.result) string_bytes c.as_slice-names.result.now none_made c.loop-name.name-index _ _ _ _ i.0 i.1 c.loop-name-test.false in
-    let all = subst (λ (l : List (List ℕ)). InTurn so stops_making (IsDir sees (HasFailed g.V.Target.counts g.V.Target.failures) c.form_of-form.result) l (start none_made) h.0) c.as_slice-names.ensures h.1 in record {
+    let h = ended_last so stops_making (IsDir sees (HasFailed g.V.Target.counts g.V.Target.failures) (HasFailed g.W.Target.counts g.W.Target.failures) c.form_of-form.result) string_bytes c.as_slice-names.result.now none_made c.loop-name.name-index _ _ _ _ i.0 i.1 c.loop-name-test.false in
+    let all = subst (λ (l : List (List ℕ)). InTurn so stops_making (IsDir sees (HasFailed g.V.Target.counts g.V.Target.failures) (HasFailed g.W.Target.counts g.W.Target.failures) c.form_of-form.result) l (start none_made) h.0) c.as_slice-names.ensures h.1 in record {
       came = (
         h.0,
-        subst (λ (f : Form). InTurn so stops_making (IsDir sees (HasFailed g.V.Target.counts g.V.Target.failures) f) c.args.asked.now.dirs (start none_made) h.0) c.form_of-form.ensures all,
+        subst (λ (f : Form). InTurn so stops_making (IsDir sees (HasFailed g.V.Target.counts g.V.Target.failures) (HasFailed g.W.Target.counts g.W.Target.failures) f) c.args.asked.now.dirs (start none_made) h.0) c.form_of-form.ensures all,
         h.2,
         h.3,
         subst (λ (l : List Index). Grows (g.P.IndexPlaces.put c.args.places.now) (g.P.IndexPlaces.put c.loop-name.places) l) (sym (ap (λ e. e.put) h.4)) i.2,

@@ -7,7 +7,7 @@ use Rattle.mandoc_formats.proofs.Turns.{left, Passed}
 use Rattle.mandoc_programs.proofs.indexing.makewhatis.Given as goal
 
 abbrev pub invariant-loop-name : goal.invariant-loop-name
-invariant-loop-name g l = (end : Makes) × Passed so stops_making (IsDir (g.R.Folders.sees l.fn.files) (HasFailed g.V.Target.counts g.V.Target.failures) l.form) string_bytes l.names none_made l.name-index
+invariant-loop-name g l = (end : Makes) × Passed so stops_making (IsDir (g.R.Folders.sees l.fn.files) (HasFailed g.V.Target.counts g.V.Target.failures) (HasFailed g.W.Target.counts g.W.Target.failures) l.form) string_bytes l.names none_made l.name-index
     (g.W.Target.contents l.fn.out) (g.W.Target.contents l.out) (g.V.Target.contents l.fn.err) (g.V.Target.contents l.err) end
     × Grows (g.P.IndexPlaces.put l.fn.places) (g.P.IndexPlaces.put l.places) end.put × (end.done ≡ left l.worst)
     × (g.W.Buffered.waits l.fn.out ≡ [] → l.worst < 6 → g.W.Buffered.waits l.out ≡ [])

@@ -2,7 +2,7 @@ use Rattle.std.proofs.Common.{[], ◌++◌, false, refl, subst, inl, inr}
 use Rattle.page_core_streams.specs.laws.Views.{Grows-nil, Grows-append}
 use Rattle.mandoc_formats.specs.Formats.{HasFailed, shown, unopened_line}
 use Rattle.mandoc_programs.specs.declared.pages.Form.{Form}
-use Rattle.mandoc_programs.specs.Indexes.{IsAll, Makes, Reported, tail}
+use Rattle.mandoc_programs.specs.Indexes.{IsAll, IsAnswered, Makes, Reported, lost, tail}
 use Rattle.mandoc_formats.proofs.Turns.{done_is, tells}
 use Rattle.mandoc_programs.proofs.indexing.print_dir.Goals as goal
 
@@ -28,7 +28,7 @@ returns-clause-came g c =
     let dir = c.args.pages.now.dir.now in
     let sees = rw c.if-not-is_dir.false at c.is_dir.ensures in
     let end : Makes = record { done = c.report_end.result; put = [] } in
-    let is = subst (λ (f : Form). IsAll (g.R.Folders.sees c.args.pages.now.files.now) (HasFailed g.V.Target.counts g.V.Target.failures) f dir h.0) c.requires h.1 in
+    let is = subst (λ (f : Form). IsAll (g.R.Folders.sees c.args.pages.now.files.now) (HasFailed g.V.Target.counts g.V.Target.failures) (lost f (HasFailed g.W.Target.counts g.W.Target.failures)) f dir h.0) c.requires h.1 in
     let told = subst (λ (f : Form). Reported (HasFailed g.V.Target.counts g.V.Target.failures) (shown dir ++ tail f) c.give_waiting-given.result r.0 c.report_end.result) c.requires r.2 in (
       record { out = h.0.out; err = h.0.err ++ r.0; end = end },
       inr (
@@ -37,7 +37,7 @@ returns-clause-came g c =
           part = h.0;
           is = is;
           result = c.give_waiting-given.result;
-          answered = h.2;
+          answered = subst (λ (f : Form). IsAnswered (lost f (HasFailed g.W.Target.counts g.W.Target.failures)) h.0.end c.give_waiting-given.result) c.requires h.2;
           out = refl;
           line = r.0;
           err = refl;

@@ -1,7 +1,9 @@
 use Rattle.std.proofs.Common.{[], Ok, Err, refl, sym, ap, inl, inr}
 use Rattle.page_core_base.specs.declared.faults.Fault.TheVariants.{WriteText}
 use Rattle.page_core_streams.specs.laws.Views.{Grows-nil}
+use Rattle.mandoc_formats.specs.Formats.{HasFailed}
 use Rattle.mandoc_programs.specs.Indexes.{entry_by, with}
+use Rattle.mandoc_programs.proofs.Parts.{lost_so}
 use Rattle.mandoc_programs.proofs.pages.give_record.Goals as goal
 
 pub returns-in-Ok : goal.returns-in-Ok
@@ -11,9 +13,10 @@ returns-in-Ok g c err =
 
 pub returns-in-Err : goal.returns-in-Err
 returns-in-Err g c err =
-    let front = c.in-Err.ensures.gives in (
+    let front = c.in-Err.ensures.gives in
+    let failed : HasFailed g.W.Target.counts g.W.Target.failures = record { before = c.args.out.now; after = c.write_in.new.out; rose = c.in-Err.ensures.cause } in (
       record { out = front.done; err = []; end = Err WriteText },
-      record { err = refl; out = inr ((front.rest, front.parts), refl) },
+      record { err = refl; out = inr ((front.rest, front.parts), refl, lost_so c.args.form _ failed) },
       front.grows,
       Grows-nil err,
       sym (ap Err c.in-Err.ensures.fault),

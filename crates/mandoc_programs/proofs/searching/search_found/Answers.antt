@@ -1,6 +1,7 @@
 use Rattle.std.proofs.Common.{ℕ, [], Result, Ok, Err, refl, ◌∙◌, subst}
 use Rattle.page_core_base.specs.declared.faults.Fault.{Fault}
 use Rattle.page_core_streams.specs.laws.Views.{Grows-nil}
+use Rattle.mandoc_formats.specs.Formats.{HasCause}
 use Rattle.mandoc_programs.specs.Searches.{IsAnswered}
 use Rattle.mandoc_formats.proofs.Turns.{none_below}
 use Rattle.mandoc_programs.proofs.searching.search_found.Goals as goal
@@ -16,6 +17,7 @@ returns-in-Ok g c =
         read = r.2;
         result = Ok c.in-Ok.count;
         ended = subst (λ (x : Result ℕ Fault). IsAnswered r.0.end x) c.in-Ok.is r.3;
+        cause = λ e. subst (HasCause _) c.in-Ok.is (c.print_waiting.ensures.cause e);
         out = refl;
         told = (refl, c.with.ensures.status ∙ c.status_by.ensures);
       },
@@ -37,6 +39,7 @@ returns-in-Err g c =
         read = r.2;
         result = Err c.in-Err.fault;
         ended = subst (λ (x : Result ℕ Fault). IsAnswered r.0.end x) c.in-Err.is r.3;
+        cause = λ e. subst (HasCause _) c.in-Err.is (c.print_waiting.ensures.cause e);
         out = refl;
         told = (line.told, f.ensures.status);
       },

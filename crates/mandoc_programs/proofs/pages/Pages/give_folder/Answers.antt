@@ -1,14 +1,14 @@
 use Rattle.std.proofs.Common.{ℕ, List, Err, refl, ◌∙◌, inl, inr, subst}
 use Rattle.page_core_base.specs.declared.faults.Fault.TheVariants.{Memory}
 use Rattle.mandoc_formats.specs.Formats.{HasFailed}
-use Rattle.mandoc_programs.specs.Indexes.{IsListed}
+use Rattle.mandoc_programs.specs.Indexes.{IsListed, lost}
 use Rattle.mandoc_programs.proofs.Parts.{quiet}
 use Rattle.mandoc_programs.proofs.pages.Pages.give_folder.Goals as goal
 
 pub returns-in-Ok : goal.returns-in-Ok
 returns-in-Ok g c =
     let h = c.give_listed.ensures in
-    let is = subst (λ (n : List ℕ). IsListed (g.R.Folders.sees c.args.self.now.files.now) (HasFailed g.V.Target.counts g.V.Target.failures) c.args.self.now.form c.args.self.now.dir.now c.args.folder.now n h.0)
+    let is = subst (λ (n : List ℕ). IsListed (g.R.Folders.sees c.args.self.now.files.now) (HasFailed g.V.Target.counts g.V.Target.failures) (lost c.args.self.now.form (HasFailed g.W.Target.counts g.W.Target.failures)) c.args.self.now.form c.args.self.now.dir.now c.args.folder.now n h.0)
     (c.as_str.ensures.value ∙ c.in-Ok.ensures) h.1 in
     (h.0, inr is, h.2, h.3, h.4)
 
